@@ -1,0 +1,5 @@
+pub mod Counts
+pub mod Devices
+pub mod Files
+pub mod Reads
+pub mod Writes
