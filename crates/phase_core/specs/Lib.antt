@@ -1,0 +1,9 @@
+pub mod Outgoing
+pub mod Machine
+pub mod Stands
+pub mod PhaseLaws
+pub mod Settled
+pub mod Starts
+pub mod Parts
+pub mod Ring
+pub mod RingLaws
