@@ -1,0 +1,8 @@
+pub mod Comparing
+pub mod Covering
+pub mod Halves
+pub mod Paths
+pub mod Ranks
+pub mod Widths
+pub mod Equality
+pub mod Descendants

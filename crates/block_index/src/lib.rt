@@ -1,0 +1,28 @@
+//! Places of an array of octrees: a level and three coordinates, their order, and which of them touch.
+//!
+//! Every call is total within its conditions and takes no memory. Contracts see a place as a `Cube` and a domain
+//! as a `Grid`; these and the definitions of the order and of touching stand in `specs/`. Laws about them, such as
+//! that the order is total, are the public functions of `laws`, whose contracts are the laws.
+#![tactic(auto)]
+
+mod containment;
+mod domain;
+mod laws;
+mod packing;
+mod place;
+mod standing;
+#[cfg(test)]
+mod tests;
+mod touching;
+mod wish;
+
+pub use containment::{covers, inside};
+pub use domain::Domain;
+pub use laws::{
+    ancestors_stand_first, contained_places_stand_together, order_goes_in_steps, order_is_total,
+    packing_is_one_to_one, touching_is_symmetric,
+};
+pub use place::Place;
+pub use standing::order;
+pub use touching::touch;
+pub use wish::Wish;

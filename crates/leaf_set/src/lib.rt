@@ -1,0 +1,17 @@
+//! The mesh: a domain and the leaves that tile it, balanced and in order.
+//!
+//! A `LeafSet` is always such a mesh: contracts see it as a `Tiling`, of which `IsTiling` holds. Only making one
+//! takes memory. The definitions of meshes, level rules and the next mesh stand in `specs/`.
+#![tactic(auto)]
+
+mod laws;
+mod level_laws;
+mod set;
+#[cfg(test)]
+mod tests;
+
+pub use laws::{leaves_of_a_mesh, next_mesh_is_a_mesh, root_mesh_is_a_mesh};
+pub use level_laws::{
+    least_solution, next_mesh_is_balanced, solutions_of_the_level_rules, touching_places,
+};
+pub use set::LeafSet;

@@ -1,0 +1,126 @@
+ghost use Rattle.std.specs.Prelude.{◌≡◌, ◌^◌, ◌<◌, ◌≤◌, ◌↔◌, Some, IfOk, IfSome, IsNone, length, slice_get};
+ghost use Rattle.block_index.specs.Places.{IsDomain};
+ghost use Rattle.leaf_set.specs.MeshLaws.{HasDistinctLeaves};
+ghost use Rattle.leaf_set.specs.Meshes.{IsLeaf};
+ghost use Rattle.leaf_set.specs.RootMesh.{root_at, root_mesh, tree_count};
+ghost use Rattle.leaf_set.specs.Tiling.{IsTiling};
+
+use block_index::{Domain, Place};
+use cello_num::Memory;
+use indexmap::IndexSet;
+use std::alloc::Global;
+use std::marker::Model;
+
+/// A domain and the leaves that tile it, balanced and in order.
+#[derive(Drop)]
+pub struct LeafSet {
+    domain: Domain,
+    places: IndexSet<Place>,
+}
+
+impl Model for LeafSet {
+    ghost use Rattle.leaf_set.specs.Tiling.{IsTiling, Tiling};
+
+    ghost Value = { Tiling };
+
+    ghost view = { λ s. record { grid = s.domain; places = s.places.keys } };
+
+    ghost invariant = { λ s. IsTiling (record { grid = s.domain; places = s.places.keys }) };
+}
+
+impl LeafSet {
+    /// The leaf set of these places of the domain, which are its leaves in order.
+    pub fn of(alloc: Global, domain: Domain, places: Vec<Place>) -> Result<LeafSet, Memory>
+        requires { IsTiling (record { grid = domain; places = places.items }) }
+        ensures grid { IfOk result (λ set. set.grid ≡ domain) }
+        ensures places { IfOk result (λ set. set.places ≡ places.items) }
+    {
+        Ok(LeafSet {
+            domain,
+            places: indexed(alloc, places)?,
+        })
+    }
+
+    /// The coarsest leaf set of the domain: its roots, x fastest, then y, then z.
+    pub fn roots(alloc: Global, domain: Domain) -> Result<LeafSet, Memory>
+        ensures grid { IfOk result (λ set. set.grid ≡ domain) }
+        ensures places { IfOk result (λ set. set.places ≡ root_mesh domain) }
+    {
+        let places = root_places(alloc, &domain)?;
+        LeafSet::of(alloc, domain, places)
+    }
+
+    /// The domain that the leaves tile.
+    pub fn domain(&self) -> &Domain
+        ensures grid { result.now ≡ self.now.grid }
+        ensures tiles { IsTiling self.now }
+    {
+        &self.domain
+    }
+
+    /// How many leaves there are.
+    pub fn len(&self) -> usize
+        ensures len { result ≡ length self.now.places }
+        ensures limit { length self.now.places ≤ 2 ^ 30 }
+        ensures tiles { IsTiling self.now }
+    {
+        self.places.len()
+    }
+
+    /// The leaf at a position.
+    pub fn place(&self, i: usize) -> Place
+        requires { i < length self.now.places }
+        ensures { slice_get self.now.places i ≡ Some result }
+    {
+        self.places.as_slice()[i]
+    }
+
+    /// The leaves in order.
+    pub fn places(&self) -> &[Place]
+        ensures places { result.now ≡ self.now.places }
+        ensures tiles { IsTiling self.now }
+    {
+        self.places.as_slice()
+    }
+
+    /// The position at which a place is a leaf.
+    pub fn position(&self, at: Place) -> Option<usize>
+        ensures found { IfSome result (λ i. slice_get self.now.places i ≡ Some at) }
+        ensures none { IsNone result ↔ (IsLeaf self.now.places at → ⊥) }
+    {
+        self.places.get_index_of(&at)
+    }
+}
+
+/// Distinct places as a set that keeps their order.
+fn indexed(alloc: Global, places: Vec<Place>) -> Result<IndexSet<Place>, Memory>
+    requires { HasDistinctLeaves places.items }
+    ensures { IfOk result (λ set. set.keys ≡ places.items) }
+{
+    let mut set = IndexSet::with_capacity(alloc, places.len())?;
+    for place in &places {
+        set.insert(*place)?;
+    }
+    Ok(set)
+}
+
+/// The roots in order.
+fn root_places(alloc: Global, domain: &Domain) -> Result<Vec<Place>, Memory>
+    ensures places { IfOk result (λ places. places.items ≡ root_mesh domain.now) }
+    ensures limits { IsDomain domain.now }
+{
+    let [trees_x, trees_y, trees_z] = domain.array();
+    let places: Vec<Place> = (0..trees_x * trees_y * trees_z)
+        .map(|n| root(domain, n))
+        .collect(alloc)?;
+    Ok(places)
+}
+
+/// The root with a number.
+fn root(domain: &Domain, n: u16) -> Place
+    requires { n < tree_count domain.now }
+    ensures { result ≡ root_at domain.now n }
+{
+    let [trees_x, trees_y, _] = domain.array();
+    Place::new(0, n % trees_x, n / trees_x % trees_y, n / trees_x / trees_y).unwrap()
+}
