@@ -1,0 +1,5 @@
+use Rattle.adapt_core.specs.AdaptLaws.{start_weight_few}
+use Rattle.adapt_core.proofs.laws.few_messages.Goals as goal
+
+pub returns : goal.returns
+returns c = record { few = start_weight_few }

@@ -1,0 +1,46 @@
+-- The problem of an adapt phase: a balanced mesh, a wish for each leaf, the opening levels, and the touching leaves.
+use Rattle.std.specs.Prelude.{◌≡◌, ℕ, ◌-◌, List, Some, Contains, false, map, slice_get}
+use Rattle.block_index.specs.Places.{Cube, Grid, IsDomain}
+use Rattle.block_index.specs.declared.wish.Wish.{Wish}
+use Rattle.leaf_set.specs.Meshes.{IsMesh, IsBalanced}
+use Rattle.leaf_set.specs.Opening.{IsOpening}
+use Rattle.leaf_set.specs.TouchingLeaves.{AreTouching}
+use Rattle.adapt_core.specs.declared.neighbour.Neighbour.{Neighbour}
+use Rattle.adapt_core.specs.Cells.{LeafPart, LeafState, AdaptProblem}
+
+-- the leaves, their wishes, and their opening levels
+abbrev pub mesh_of : AdaptProblem → List Cube
+mesh_of p = map (λ part. part.place) p.parts
+
+abbrev pub wishes_of : AdaptProblem → List Wish
+wishes_of p = map (λ part. part.wish) p.parts
+
+abbrev pub openings_of : AdaptProblem → List ℕ
+openings_of p = map (λ part. part.opening) p.parts
+
+-- a part at position i: it knows its position, and its neighbours are the leaves that touch it, with their places
+pub record IsPartAt (p : AdaptProblem) (i : ℕ) (part : LeafPart) : Type 0 where
+  pub index : part.index ≡ i
+  pub touching : AreTouching p.grid (mesh_of p) i (map (λ n. n.at) part.neighbours)
+  pub placed : (n : Neighbour) → Contains part.neighbours n → slice_get (mesh_of p) n.at ≡ Some n.place
+
+-- a well-formed problem
+pub record IsAdaptProblem (p : AdaptProblem) : Type 0 where
+  pub domain : IsDomain p.grid
+  pub mesh : IsMesh p.grid (mesh_of p)
+  pub balanced : IsBalanced p.grid (mesh_of p)
+  pub opening : IsOpening p.grid (mesh_of p) (wishes_of p) (openings_of p)
+  pub parts : (i : ℕ) (part : LeafPart) → slice_get p.parts i ≡ Some part → IsPartAt p i part
+
+-- a cell before anything is handled: not started, at the coarsest level that it may get
+abbrev pub unopened : LeafPart → LeafState
+unopened part = record { part = part; level = part.place.level - 1; started = false }
+
+-- what a phase over this domain and its cells work on
+abbrev pub problem_of : Grid → List LeafState → AdaptProblem
+problem_of grid cells = record { grid = grid; parts = map (λ cell. cell.part) cells }
+
+-- the cells of a well-formed problem before anything is handled
+pub record AdaptBegins (p : AdaptProblem) (cells : List LeafState) : Type 0 where
+  pub problem : IsAdaptProblem p
+  pub begun : cells ≡ map unopened p.parts

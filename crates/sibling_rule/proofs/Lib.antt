@@ -1,0 +1,3 @@
+pub mod NextMeshSteps
+pub mod OpeningSteps
+pub mod EvenLevels

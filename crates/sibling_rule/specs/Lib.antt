@@ -1,0 +1,2 @@
+pub mod OwnLevel
+pub mod Decided
