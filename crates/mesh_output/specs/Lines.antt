@@ -1,0 +1,31 @@
+-- The lines of a report and the text of a mesh. Each line ends with a line feed, and numbers are decimal.
+use Rattle.std.specs.Prelude.{ℕ, List, ◌++◌, length, codes, decimal}
+use Rattle.std.specs.List.{flat_map}
+use Rattle.block_index.specs.Places.{Cube}
+
+unfoldable pub header_line : List ℕ
+header_line = codes "cello report 1\n"
+
+-- after an adapt phase: its number and the new number of leaves
+unfoldable pub phase_line : ℕ → ℕ → List ℕ
+phase_line phase leaves = codes "phase " ++ decimal phase ++ codes " leaves " ++ decimal leaves ++ codes "\n"
+
+-- after a cycle
+unfoldable pub cycle_line : ℕ → ℕ → List ℕ
+cycle_line cycle leaves = codes "cycle " ++ decimal cycle ++ codes " leaves " ++ decimal leaves ++ codes "\n"
+
+-- how many leaves a mesh has
+unfoldable pub count_line : ℕ → List ℕ
+count_line leaves = codes "mesh " ++ decimal leaves ++ codes "\n"
+
+-- a leaf: its level and coordinates
+unfoldable pub leaf_line : Cube → List ℕ
+leaf_line c =
+    decimal c.level ++ codes " " ++ decimal c.x ++ codes " " ++ decimal c.y ++ codes " " ++ decimal c.z ++ codes "\n"
+
+-- a mesh: the number of its leaves, and each of them in order
+unfoldable pub mesh_text : List Cube → List ℕ
+mesh_text mesh = count_line (length mesh) ++ flat_map leaf_line mesh
+
+unfoldable pub end_line : List ℕ
+end_line = codes "end\n"

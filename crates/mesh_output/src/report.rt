@@ -1,0 +1,60 @@
+//! The lines of a report.
+ghost use Rattle.std.specs.Prelude.{◌≡◌};
+ghost use Rattle.cello_io.specs.Counts.{HasCause};
+ghost use Rattle.cello_io.specs.Writes.{Wrote};
+ghost use Rattle.mesh_output.specs.Lines.{header_line, phase_line, cycle_line, end_line};
+
+use crate::line::{Line, push_number};
+use cello_io::{Failed, Sink, write_all};
+
+/// Writes the first line of a report.
+#[tactic(auto, unfolding(crate::specs::Lines::header_line))]
+pub fn write_header<K: Sink>(sink: &mut K) -> Result<(), Failed>
+    ensures wrote { Wrote (K.written sink.old) (K.written sink.new) result header_line }
+    ensures same_rest { K.rest sink.new ≡ K.rest sink.old }
+    ensures cause { HasCause (K.write_faults sink.old) (K.write_faults sink.new) result }
+{
+    write_all(sink, b"cello report 1\n")
+}
+
+/// Writes the line of an adapt phase: its number, and the number of leaves after it.
+#[tactic(auto, unfolding(crate::specs::Lines::phase_line))]
+pub fn write_phase_line<K: Sink>(phase: u32, leaves: u32, sink: &mut K) -> Result<(), Failed>
+    ensures wrote { Wrote (K.written sink.old) (K.written sink.new) result (phase_line phase leaves) }
+    ensures same_rest { K.rest sink.new ≡ K.rest sink.old }
+    ensures cause { HasCause (K.write_faults sink.old) (K.write_faults sink.new) result }
+{
+    let mut line = Line::new();
+    line.push_str("phase ");
+    push_number(&mut line, phase);
+    line.push_str(" leaves ");
+    push_number(&mut line, leaves);
+    line.push_str("\n");
+    write_all(sink, line.as_str().as_bytes())
+}
+
+/// Writes the line of a cycle: its number, and the number of leaves after it.
+#[tactic(auto, unfolding(crate::specs::Lines::cycle_line))]
+pub fn write_cycle_line<K: Sink>(cycle: u32, leaves: u32, sink: &mut K) -> Result<(), Failed>
+    ensures wrote { Wrote (K.written sink.old) (K.written sink.new) result (cycle_line cycle leaves) }
+    ensures same_rest { K.rest sink.new ≡ K.rest sink.old }
+    ensures cause { HasCause (K.write_faults sink.old) (K.write_faults sink.new) result }
+{
+    let mut line = Line::new();
+    line.push_str("cycle ");
+    push_number(&mut line, cycle);
+    line.push_str(" leaves ");
+    push_number(&mut line, leaves);
+    line.push_str("\n");
+    write_all(sink, line.as_str().as_bytes())
+}
+
+/// Writes the last line of a report.
+#[tactic(auto, unfolding(crate::specs::Lines::end_line))]
+pub fn write_end<K: Sink>(sink: &mut K) -> Result<(), Failed>
+    ensures wrote { Wrote (K.written sink.old) (K.written sink.new) result end_line }
+    ensures same_rest { K.rest sink.new ≡ K.rest sink.old }
+    ensures cause { HasCause (K.write_faults sink.old) (K.write_faults sink.new) result }
+{
+    write_all(sink, b"end\n")
+}
