@@ -1,0 +1,5 @@
+use Rattle.cello_top.proofs.OneAnswer.{IsAnswer-one}
+use Rattle.cello_top.proofs.laws.one_answer.Goals as goal
+
+pub returns : goal.returns
+returns c = record { one = IsAnswer-one }

@@ -1,0 +1,69 @@
+//! The report of a run.
+ghost use Rattle.std.specs.Prelude.{◌≡◌, ◌≤◌, ◌++◌, length};
+ghost use Rattle.cello_io.specs.Counts.{HasCause};
+ghost use Rattle.cello_io.specs.Writes.{Wrote};
+ghost use Rattle.mesh_output.specs.Lines.{cycle_line, mesh_text, end_line};
+ghost use Rattle.cello_top.specs.Answers.{phase_lines, bytes_of, actions};
+
+use cello_io::{Failed, Sink};
+use leaf_set::LeafSet;
+use mesh_output::{write_cycle_line, write_end, write_header, write_mesh, write_phase_line};
+
+/// Writes the report of a run that ended with this mesh, and had these numbers of leaves after its phases.
+pub fn write_report<K: Sink>(leaves: &[u32], set: &LeafSet, sink: &mut K) -> Result<(), Failed>
+    requires { length leaves.now ≤ 12 }
+    ensures wrote { Wrote (K.written sink.old) (K.written sink.new) result (bytes_of (actions set.now.places leaves.now)) }
+    ensures same_rest { K.rest sink.new ≡ K.rest sink.old }
+    ensures cause { HasCause (K.write_faults sink.old) (K.write_faults sink.new) result }
+{
+    write_header(sink)?;
+    write_body(leaves, set, sink)
+}
+
+/// Writes what stands behind the first line.
+fn write_body<K: Sink>(leaves: &[u32], set: &LeafSet, sink: &mut K) -> Result<(), Failed>
+    requires { length leaves.now ≤ 12 }
+    ensures wrote { Wrote (K.written sink.old) (K.written sink.new) result
+        (bytes_of (phase_lines 1 leaves.now) ++ (cycle_line 0 (length set.now.places) ++ (mesh_text set.now.places ++ end_line))) }
+    ensures same_rest { K.rest sink.new ≡ K.rest sink.old }
+    ensures cause { HasCause (K.write_faults sink.old) (K.write_faults sink.new) result }
+{
+    write_phases(leaves, sink)?;
+    write_close(set, sink)
+}
+
+/// Writes the lines of the phases.
+fn write_phases<K: Sink>(leaves: &[u32], sink: &mut K) -> Result<(), Failed>
+    requires { length leaves.now ≤ 12 }
+    ensures wrote { Wrote (K.written sink.old) (K.written sink.new) result (bytes_of (phase_lines 1 leaves.now)) }
+    ensures same_rest { K.rest sink.new ≡ K.rest sink.old }
+    ensures cause { HasCause (K.write_faults sink.old) (K.write_faults sink.new) result }
+{
+    let mut phase = 1;
+    for count in leaves {
+        write_phase_line(phase, *count, sink)?;
+        phase += 1;
+    }
+    Ok(())
+}
+
+/// Writes the line of cycle 0 and the mesh.
+fn write_close<K: Sink>(set: &LeafSet, sink: &mut K) -> Result<(), Failed>
+    ensures wrote { Wrote (K.written sink.old) (K.written sink.new) result
+        (cycle_line 0 (length set.now.places) ++ (mesh_text set.now.places ++ end_line)) }
+    ensures same_rest { K.rest sink.new ≡ K.rest sink.old }
+    ensures cause { HasCause (K.write_faults sink.old) (K.write_faults sink.new) result }
+{
+    write_cycle_line(0, set.len() as u32, sink)?;
+    write_list(set, sink)
+}
+
+/// Writes the closing list of the mesh.
+fn write_list<K: Sink>(set: &LeafSet, sink: &mut K) -> Result<(), Failed>
+    ensures wrote { Wrote (K.written sink.old) (K.written sink.new) result (mesh_text set.now.places ++ end_line) }
+    ensures same_rest { K.rest sink.new ≡ K.rest sink.old }
+    ensures cause { HasCause (K.write_faults sink.old) (K.write_faults sink.new) result }
+{
+    write_mesh(set, sink)?;
+    write_end(sink)
+}
