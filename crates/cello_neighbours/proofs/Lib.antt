@@ -5,3 +5,11 @@ pub mod Counting
 pub mod Insertions
 pub mod Gatherings
 pub mod NineLeaves
+pub mod PlacesBeyond
+pub mod NearSides
+pub mod Splits
+pub mod AscendingLists
+pub mod NearChildren
+pub mod Collections
+pub mod CoverLaws
+pub mod AxisLengths

@@ -3,7 +3,7 @@ use Rattle.std.proofs.Common.{◌≡◌, ℕ, ◌+◌, ◌-◌, ◌*◌, ◌/◌
 use Rattle.std.specs.Option.{IsNone}
 use Rattle.std.proofs.lemmas.Bool.{cases_lt}
 use Rattle.std.proofs.lemmas.Nat.{mul-le}
-use Rattle.block_index.specs.Places.{Cube, Grid, IsDomain, IsPlace}
+use Rattle.block_index.specs.Places.{Cube, Grid, IsDomain, IsInside, IsPlace}
 use Rattle.leaf_set.specs.Meshes.{IsLeaf, IsMesh}
 use Rattle.leaf_set.proofs.Containment.{Contains, Contains-covers, covers-Contains, Contains-between, same_cube}
 use Rattle.leaf_set.proofs.MeshFacts.{leaves_apart, leaves_distinct}
@@ -34,16 +34,17 @@ IsLeafOver-lifted mesh u c up j h l e s =
 axis_16 : (t l n : ℕ) → t ≤ 16 → n < t * 2 ^ l → n < 16 * 2 ^ l
 axis_16 t l n h k = omega (arith, mul-le t (2 ^ l) 16 (2 ^ l) h (le_refl (2 ^ l)))
 
+pub IsPlace-IsInside : (grid : Grid) (c : Cube) → IsDomain grid → IsInside grid c → IsPlace c
+IsPlace-IsInside grid c g i = record {
+  level = omega (arith, g.finest, i.level);
+  x = axis_16 grid.trees_x c.level c.x g.most_x i.x;
+  y = axis_16 grid.trees_y c.level c.y g.most_y i.y;
+  z = axis_16 grid.trees_z c.level c.z g.most_z i.z;
+}
+
 module _ (grid : Grid) (mesh : List Cube) (g : IsDomain grid) (m : IsMesh grid mesh) where
   pub IsPlace-leaf : (j : ℕ) (c : Cube) → slice_get mesh j ≡ Some c → IsPlace c
-  IsPlace-leaf j c s =
-      let i = m.inside j c s in
-      record {
-        level = omega (arith, g.finest, i.level);
-        x = axis_16 grid.trees_x c.level c.x g.most_x i.x;
-        y = axis_16 grid.trees_y c.level c.y g.most_y i.y;
-        z = axis_16 grid.trees_z c.level c.z g.most_z i.z;
-      }
+  IsPlace-leaf j c s = IsPlace-IsInside grid c g (m.inside j c s)
 
   -- what `position` answers at a leaf
   pub position_of : (r : Option ℕ) (c : Cube) → IfSome r (λ i. slice_get mesh i ≡ Some c) → (IsNone r ↔ (IsLeaf mesh c → ⊥)) → (j : ℕ) → slice_get mesh j ≡ Some c → r ≡ Some j

@@ -25,7 +25,7 @@ breadth-width : (l m : ℕ) → l ≤ 6 → m ≤ 6 → m ≤ l + 1 → width l 
 breadth-width l m h k o =
     sym (pow-add 2 (6 - l) (l + 1 - m)) ∙ same_power (6 - l + (l + 1 - m)) (1 + (6 - m)) (omega arith) ∙ pow-add 2 1 (6 - m)
 
-axis_length : (trees l : ℕ) → l ≤ 6 → trees * 64 ≡ trees * 2 ^ l * width l
+pub axis_length : (trees l : ℕ) → l ≤ 6 → trees * 64 ≡ trees * 2 ^ l * width l
 axis_length trees l h =
     omega (arith, ap (λ q. trees * q) (same_power 6 (l + (6 - l)) (omega arith) ∙ pow-add 2 l (6 - l)))
 

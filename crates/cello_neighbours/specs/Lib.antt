@@ -1,1 +1,3 @@
 pub mod Shell
+pub mod Directions
+pub mod Covers

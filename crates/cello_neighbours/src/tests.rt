@@ -15,13 +15,18 @@ fn touches(set: &LeafSet, b: usize, expected: &[u32]) -> bool {
 }
 
 /// The roots of an array of octrees of which all axes wrap, or none.
-fn roots(rt: &impl Abort, alloc: Global, array: [u16; 3], wraps: bool) -> Result<LeafSet, Memory> {
+pub(crate) fn roots(
+    rt: &impl Abort,
+    alloc: Global,
+    array: [u16; 3],
+    wraps: bool,
+) -> Result<LeafSet, Memory> {
     let domain = Domain::new(array, [wraps, wraps, wraps], 0).expect(rt, "a domain");
     LeafSet::roots(alloc, domain)
 }
 
 /// Of two roots along x the first as its eight children, then the second.
-fn nine_leaves(rt: &impl Abort, alloc: Global, wraps: bool) -> Result<LeafSet, Memory> {
+pub(crate) fn nine_leaves(rt: &impl Abort, alloc: Global, wraps: bool) -> Result<LeafSet, Memory> {
     let domain = Domain::new([2, 1, 1], [wraps, wraps, wraps], 1).expect(rt, "a domain");
     let first = Place::new(0, 0, 0, 0).expect(rt, "a root");
     let second = Place::new(0, 1, 0, 0).expect(rt, "a root");

@@ -128,7 +128,7 @@ IsInside-child_of grid c k h l i = record {
 }
 
 -- the lowest corner of c, d levels down
-pub corner : ℕ → Cube → Cube
+unfoldable pub corner : ℕ → Cube → Cube
 corner d c = record { level = c.level + d; x = c.x * 2 ^ d; y = c.y * 2 ^ d; z = c.z * 2 ^ d }
 
 pub Contains-corner : (d : ℕ) (c : Cube) → Contains d c (corner d c)

@@ -16,3 +16,14 @@ pub mod Decisions
 pub mod LeastLevels
 pub mod LevelChanges
 pub mod Positions
+pub mod InOrder
+pub mod Overlaps
+pub mod Stretches
+pub mod Values
+pub mod BarePlaces
+pub mod OneFault
+pub mod Ancestors
+pub mod StepMeetings
+pub mod FarLeaves
+pub mod FirstJumps
+pub mod Splitting

@@ -1,6 +1,7 @@
 -- Where a place stands among the keys of a set of places, which are found by the derived `==`.
-use Rattle.std.proofs.Common.{rules, tests, arith, ◌≡◌, ℕ, ◌+◌, ◌<◌, Bool, true, false, true≢false, List, [], ◌∷◌, ◌++◌, length, take, slice_get, get_or, position, Option, None, Some, IsNone, IfSome, is_some, ◌↔◌, if◌then◌else◌, refl, sym, ap, subst, ◌∙◌}
+use Rattle.std.proofs.Common.{rules, tests, arith, ◌≡◌, ℕ, ◌+◌, ◌<◌, Bool, true, false, true≢false, not, List, [], ◌∷◌, ◌++◌, length, take, slice_get, get_or, position, Option, None, Some, IsNone, IfSome, is_some, ◌↔◌, if◌then◌else◌, refl, sym, ap, subst, ◌∙◌}
 use Rattle.std.specs.List.{list_any}
+use Rattle.std.specs.Option.{option_eq}
 use Rattle.std.proofs.lemmas.List.{take_more, get_or-take, length-take}
 use Rattle.std.proofs.lemmas.List.Folds.{list_any_at}
 use Rattle.std.proofs.lemmas.List.Quantifiers.{position-Some}
@@ -61,3 +62,17 @@ insert_key-next xs i c d s =
     ap (λ b. if b then take i xs else take i xs ++ c ∷ []) (list_any-before xs i c (list_any (place_eq c) (take i xs)) d s refl)
     ∙ ap (λ x. take i xs ++ x ∷ []) (sym (get_or_from_slice_get xs i c c s))
     ∙ sym (take_more xs i c (slice_get_within xs i c s))
+
+-- ---- a place that there may be, compared with one
+
+pub same_from_option_eq : (o : Option Cube) (c : Cube) → false ≡ not (option_eq place_eq o (Some c)) → o ≡ Some c
+same_from_option_eq None c h = absurd (true≢false (sym h))
+same_from_option_eq (Some a) c h = ap Some (same_from_place_eq a c (true_from_not (place_eq a c) h))
+  where
+    true_from_not : (b : Bool) → false ≡ not b → b ≡ true
+    true_from_not true h = refl
+    true_from_not false h = absurd (true≢false (sym h))
+
+pub other_from_option_eq : (o : Option Cube) (c : Cube) → true ≡ not (option_eq place_eq o (Some c)) → o ≡ Some c → ⊥
+other_from_option_eq o c h same =
+    true≢false (h ∙ ap not (ap (λ p. option_eq place_eq p (Some c)) same ∙ place_eq-itself c))

@@ -22,6 +22,14 @@ start c = spot c * 8 ^ (6 - c.level)
 pub stop : Cube → ℕ
 stop c = (spot c + 1) * 8 ^ (6 - c.level)
 
+pub start-spot : (c : Cube) → start c ≡ spot c * 8 ^ (6 - c.level)
+unfolding start
+start-spot c = refl
+
+pub stop-start : (c : Cube) → stop c ≡ start c + 8 ^ (6 - c.level)
+unfolding start stop
+stop-start c = omega arith
+
 half_up : (l x : ℕ) → x / 2 / 2 ^ l ≡ x / 2 ^ suc l
 half_up l x = shr-shr x 1 l ∙ ap (λ n. x / 2 ^ n) (let e : 1 + l ≡ suc l = omega arith in e)
 

@@ -9,3 +9,6 @@ pub mod LevelChanges
 pub mod TouchingLeaves
 pub mod Opening
 pub mod Tiling
+pub mod LeafFaults
+pub mod Stretches
+pub mod JumpSearch

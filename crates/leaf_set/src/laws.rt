@@ -3,11 +3,15 @@
 ghost use Rattle.std.specs.Prelude.{◌≡◌, ℕ, ◌*◌, ◌^◌, ◌≤◌, List, Some, length, slice_get};
 ghost use Rattle.block_index.specs.Places.{Cube, Grid, IsDomain};
 ghost use Rattle.block_index.specs.declared.wish.Wish.{Wish};
+ghost use Rattle.leaf_set.specs.declared.leaf_fault.LeafFault.{LeafFault};
+ghost use Rattle.leaf_set.specs.declared.leaf_fault.LeafFault.TheVariants.{Memory};
+ghost use Rattle.leaf_set.specs.LeafFaults.{IsLeafFault};
 ghost use Rattle.leaf_set.specs.Meshes.{IsLeaf, IsMesh, IsBalanced};
 ghost use Rattle.leaf_set.specs.LevelRules.{IsSolution};
 ghost use Rattle.leaf_set.specs.NextMesh.{next_mesh};
 ghost use Rattle.leaf_set.specs.RootMesh.{root_mesh, tree_count};
 ghost use Rattle.leaf_set.specs.Origins.{Origin};
+ghost use Rattle.leaf_set.specs.Tiling.{IsTiling};
 ghost use Rattle.leaf_set.specs.MeshLaws.{
   HasDistinctLeaves,
   HasLeavesInOrder,
@@ -45,4 +49,12 @@ pub fn next_mesh_is_a_mesh()
         IsSolution grid mesh wishes levels → IsMesh grid (next_mesh mesh levels) }
     ensures origins { (grid : Grid) (mesh : List Cube) (wishes : List Wish) (levels : List ℕ) (p : Cube) →
         IsSolution grid mesh wishes levels → IsLeaf (next_mesh mesh levels) p → Origin mesh levels p }
+{}
+
+/// The faults of a list of places: one that has a fault is no balanced mesh in order, and it has one fault, the first.
+pub fn faults_of_places()
+    ensures no_mesh { (grid : Grid) (places : List Cube) (f : LeafFault) → IsLeafFault grid places f → (f ≡ Memory → ⊥) →
+        IsTiling (record { grid = grid; places = places }) → ⊥ }
+    ensures one_fault { (grid : Grid) (places : List Cube) (f g : LeafFault) → IsDomain grid → IsLeafFault grid places f →
+        IsLeafFault grid places g → (f ≡ Memory → ⊥) → (g ≡ Memory → ⊥) → f ≡ g }
 {}

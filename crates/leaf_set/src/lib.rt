@@ -4,13 +4,18 @@
 //! takes memory. The definitions of meshes, level rules and the next mesh stand in `specs/`.
 #![tactic(auto)]
 
+mod bare_places;
+mod faults;
+mod jump;
 mod laws;
+mod leaf_fault;
 mod level_laws;
 mod set;
 #[cfg(test)]
 mod tests;
 
-pub use laws::{leaves_of_a_mesh, next_mesh_is_a_mesh, root_mesh_is_a_mesh};
+pub use laws::{faults_of_places, leaves_of_a_mesh, next_mesh_is_a_mesh, root_mesh_is_a_mesh};
+pub use leaf_fault::LeafFault;
 pub use level_laws::{
     least_solution, next_mesh_is_balanced, solutions_of_the_level_rules, touching_places,
 };

@@ -1,10 +1,14 @@
-ghost use Rattle.std.specs.Prelude.{◌≡◌, ◌^◌, ◌<◌, ◌≤◌, ◌↔◌, Some, IfOk, IfSome, IsNone, length, slice_get};
-ghost use Rattle.block_index.specs.Places.{IsDomain};
+ghost use Rattle.std.specs.Prelude.{◌≡◌, ◌^◌, ◌<◌, ◌≤◌, ◌↔◌, true, Some, IfOk, IfErr, IfSome, IsNone, length, slice_get};
+ghost use Rattle.block_index.specs.Places.{Cube, IsDomain, covers};
+ghost use Rattle.leaf_set.specs.LeafFaults.{IsLeafFault};
 ghost use Rattle.leaf_set.specs.MeshLaws.{HasDistinctLeaves};
 ghost use Rattle.leaf_set.specs.Meshes.{IsLeaf};
 ghost use Rattle.leaf_set.specs.RootMesh.{root_at, root_mesh, tree_count};
 ghost use Rattle.leaf_set.specs.Tiling.{IsTiling};
 
+use crate::faults::mesh_fault;
+use crate::jump::first_jump;
+use crate::leaf_fault::LeafFault;
 use block_index::{Domain, Place};
 use cello_num::Memory;
 use indexmap::IndexSet;
@@ -31,7 +35,7 @@ impl Model for LeafSet {
 impl LeafSet {
     /// The leaf set of these places of the domain, which are its leaves in order.
     pub fn of(alloc: Global, domain: Domain, places: Vec<Place>) -> Result<LeafSet, Memory>
-        requires { IsTiling (record { grid = domain; places = places.items }) }
+        requires tiles { IsTiling (record { grid = domain; places = places.items }) }
         ensures grid { IfOk result (λ set. set.grid ≡ domain) }
         ensures places { IfOk result (λ set. set.places ≡ places.items) }
     {
@@ -39,6 +43,29 @@ impl LeafSet {
             domain,
             places: indexed(alloc, places)?,
         })
+    }
+
+    /// The leaf set of these places, where they are a balanced mesh of the domain in order; else the first fault.
+    pub fn from_places(
+        alloc: Global,
+        domain: Domain,
+        places: Vec<Place>,
+    ) -> Result<LeafSet, LeafFault>
+        ensures grid { IfOk result (λ set. set.grid ≡ domain) }
+        ensures places { IfOk result (λ set. set.places ≡ places.items) }
+        ensures tiles { IfOk result (λ set. IsTiling set) }
+        ensures fault { IfErr result (λ f. IsLeafFault domain places.items f) }
+    {
+        if let Some(fault) = mesh_fault(&domain, &places) {
+            return Err(fault);
+        }
+        let Ok(places) = indexed(alloc, places) else {
+            return Err(LeafFault::Memory);
+        };
+        match first_jump(&domain, &places) {
+            Some((a, b)) => Err(LeafFault::Jump { a, b }),
+            None => Ok(LeafSet { domain, places }),
+        }
     }
 
     /// The coarsest leaf set of the domain: its roots, x fastest, then y, then z.
@@ -69,8 +96,8 @@ impl LeafSet {
 
     /// The leaf at a position.
     pub fn place(&self, i: usize) -> Place
-        requires { i < length self.now.places }
-        ensures { slice_get self.now.places i ≡ Some result }
+        requires inside { i < length self.now.places }
+        ensures leaf { slice_get self.now.places i ≡ Some result }
     {
         self.places.as_slice()[i]
     }
@@ -90,10 +117,25 @@ impl LeafSet {
     {
         self.places.get_index_of(&at)
     }
+
+    /// The position of the leaf that is a place or contains it.
+    pub fn covering(&self, at: Place) -> Option<usize>
+        ensures found { IfSome result (λ i. (c : Cube) × (slice_get self.now.places i ≡ Some c) × (covers c at ≡ true)) }
+        ensures none { IsNone result → (c : Cube) → IsLeaf self.now.places c → covers c at ≡ true → ⊥ }
+    {
+        let mut over = Some(at);
+        while let Some(place) = over {
+            if let Some(i) = self.position(place) {
+                return Some(i);
+            }
+            over = place.parent();
+        }
+        None
+    }
 }
 
 /// Distinct places as a set that keeps their order.
-fn indexed(alloc: Global, places: Vec<Place>) -> Result<IndexSet<Place>, Memory>
+pub(crate) fn indexed(alloc: Global, places: Vec<Place>) -> Result<IndexSet<Place>, Memory>
     requires { HasDistinctLeaves places.items }
     ensures { IfOk result (λ set. set.keys ≡ places.items) }
 {
@@ -118,8 +160,8 @@ fn root_places(alloc: Global, domain: &Domain) -> Result<Vec<Place>, Memory>
 
 /// The root with a number.
 fn root(domain: &Domain, n: u16) -> Place
-    requires { n < tree_count domain.now }
-    ensures { result ≡ root_at domain.now n }
+    requires number { n < tree_count domain.now }
+    ensures root { result ≡ root_at domain.now n }
 {
     let [trees_x, trees_y, _] = domain.array();
     Place::new(0, n % trees_x, n / trees_x % trees_y, n / trees_x / trees_y).unwrap()

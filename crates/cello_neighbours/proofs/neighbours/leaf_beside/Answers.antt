@@ -15,11 +15,11 @@ shell_at g h mesh b s a p u e f k n =
 
 pub returns-in_err-cube-clause-every : goal.returns-in_err-cube-clause-every
 returns-in_err-cube-clause-every c j a u d f k v n =
-    absurd (none-some u (c.in_err-cube.ensures.every u (shell_at _ _ c.args.set.now.places c.args.b _ _ _ _ c.requires.domain f c.place.ensures k)))
+    absurd (none-some u (c.in_err-cube.ensures.every u (shell_at _ _ c.args.set.now.places c.args.b _ _ _ _ c.requires.domain f c.place.ensures.leaf k)))
 
 pub returns-in_err-j-clause-every : goal.returns-in_err-j-clause-every
 returns-in_err-j-clause-every c j a u d f k v n =
-    let e = same_Some c.in_ok-cube.cube u (c.in_ok-cube.ensures.every u (shell_at _ _ c.args.set.now.places c.args.b _ _ _ _ c.requires.domain f c.place.ensures k)) in
+    let e = same_Some c.in_ok-cube.cube u (c.in_ok-cube.ensures.every u (shell_at _ _ c.args.set.now.places c.args.b _ _ _ _ c.requires.domain f c.place.ensures.leaf k)) in
     absurd (none-some j (c.in_err-j.ensures.every j d (subst (λ q. IsLeafOver c.args.set.now.places q j d) (sym e) v)))
 
 pub overflow_cast-result : goal.overflow_cast-result
@@ -31,7 +31,7 @@ overflow_cast-result c =
 
 pub returns-then-j-b-clause-every : goal.returns-then-j-b-clause-every
 returns-then-j-b-clause-every c j a u d f k v n =
-    let e = same_Some c.in_ok-cube.cube u (c.in_ok-cube.ensures.every u (shell_at _ _ c.args.set.now.places c.args.b _ _ _ _ c.requires.domain f c.place.ensures k)) in
+    let e = same_Some c.in_ok-cube.cube u (c.in_ok-cube.ensures.every u (shell_at _ _ c.args.set.now.places c.args.b _ _ _ _ c.requires.domain f c.place.ensures.leaf k)) in
     let o = same_Some c.in_ok-j.j j (c.in_ok-j.ensures.every j d (subst (λ q. IsLeafOver c.args.set.now.places q j d) (sym e) v)) in
     absurd (n (sym o ∙ c.if-j-b.true))
 
@@ -39,7 +39,7 @@ pub returns-else-j-b-clause-touches : goal.returns-else-j-b-clause-touches
 returns-else-j-b-clause-touches c a f =
     let t = c.requires.tiles in
     let o = c.in_ok-j.ensures.found in
-    let e : c.place.result ≡ a = same_Some c.place.result a (sym c.place.ensures ∙ f) in
+    let e : c.place.result ≡ a = same_Some c.place.result a (sym c.place.ensures.leaf ∙ f) in
     let k : IsShellCube c.args.set.now.grid a c.args.s c.in_ok-cube.cube =
     subst (λ q. IsShellCube c.args.set.now.grid q c.args.s c.in_ok-cube.cube) e
     (subst (λ q. IsShellCube q c.place.result c.args.s c.in_ok-cube.cube) c.requires.domain c.in_ok-cube.ensures.found) in (
@@ -55,9 +55,9 @@ returns-else-j-b-clause-outer c _ =
     let k : IsShellCube c.args.set.now.grid c.place.result c.args.s c.in_ok-cube.cube =
     subst (λ q. IsShellCube q c.place.result c.args.s c.in_ok-cube.cube) c.requires.domain c.in_ok-cube.ensures.found in
     false_from_ne_true (is_inner c.args.s) (λ i.
-    c.if-j-b.false (inner_over c.args.set.now.grid c.args.set.now.places t.domain t.mesh c.args.b c.in_ok-j.j c.args.s c.place.result c.in_ok-cube.cube o.0 c.place.ensures k i o.1))
+    c.if-j-b.false (inner_over c.args.set.now.grid c.args.set.now.places t.domain t.mesh c.args.b c.in_ok-j.j c.args.s c.place.result c.in_ok-cube.cube o.0 c.place.ensures.leaf k i o.1))
 
 pub returns-else-j-b-clause-every : goal.returns-else-j-b-clause-every
 returns-else-j-b-clause-every c j a u d f k v n =
-    let e = same_Some c.in_ok-cube.cube u (c.in_ok-cube.ensures.every u (shell_at _ _ c.args.set.now.places c.args.b _ _ _ _ c.requires.domain f c.place.ensures k)) in
+    let e = same_Some c.in_ok-cube.cube u (c.in_ok-cube.ensures.every u (shell_at _ _ c.args.set.now.places c.args.b _ _ _ _ c.requires.domain f c.place.ensures.leaf k)) in
     c.in_ok-j.ensures.every j d (subst (λ q. IsLeafOver c.args.set.now.places q j d) (sym e) v)

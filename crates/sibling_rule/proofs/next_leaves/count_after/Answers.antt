@@ -5,7 +5,7 @@ use Rattle.sibling_rule.proofs.next_leaves.count_after.Goals as goal
 
 pub overflow_add-count : goal.overflow_add-count
 overflow_add-count c =
-    let step = next_mesh-drop c.args.set.now.places c.args.levels.now c.loop-i.i c.place.result c.place.ensures
+    let step = next_mesh-drop c.args.set.now.places c.args.levels.now c.loop-i.i c.place.result c.place.ensures.leaf
     (omega (arith, c.requires.decided.1.one_each, c.loop-i-test.true, c.len-i-end.ensures.len)) in
     let parts = length-append (leaves_after c.place.result (slice_index c.args.levels.now c.loop-i.i))
     (next_mesh (drop (c.loop-i.i + 1) c.args.set.now.places) (drop (c.loop-i.i + 1) c.args.levels.now)) in
@@ -14,7 +14,7 @@ overflow_add-count c =
 
 pub loop-i-preserved : goal.loop-i-preserved
 loop-i-preserved c =
-    let step = next_mesh-drop c.args.set.now.places c.args.levels.now c.loop-i.i c.place.result c.place.ensures
+    let step = next_mesh-drop c.args.set.now.places c.args.levels.now c.loop-i.i c.place.result c.place.ensures.leaf
     (omega (arith, c.requires.decided.1.one_each, c.loop-i-test.true, c.len-i-end.ensures.len)) in
     let parts = length-append (leaves_after c.place.result (slice_index c.args.levels.now c.loop-i.i))
     (next_mesh (drop (c.loop-i.i + 1) c.args.set.now.places) (drop (c.loop-i.i + 1) c.args.levels.now)) in

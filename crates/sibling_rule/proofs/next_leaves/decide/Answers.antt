@@ -7,11 +7,11 @@ use Rattle.sibling_rule.proofs.next_leaves.decide.Goals as goal
 
 pub push_leaves_after-requires : goal.push_leaves_after-requires
 push_leaves_after-requires c =
-    room_for_children c.args.set.now c.args.levels.now c.loop-i.i c.place.result c.len-i-end.ensures.tiles c.requires.decided c.place.ensures
+    room_for_children c.args.set.now c.args.levels.now c.loop-i.i c.place.result c.len-i-end.ensures.tiles c.requires.decided c.place.ensures.leaf
 
 pub loop-i-preserved : goal.loop-i-preserved
 loop-i-preserved c =
-    let step = next_mesh-drop c.args.set.now.places c.args.levels.now c.loop-i.i c.place.result c.place.ensures
+    let step = next_mesh-drop c.args.set.now.places c.args.levels.now c.loop-i.i c.place.result c.place.ensures.leaf
     (omega (arith, c.requires.decided.1.one_each, c.loop-i-test.true, c.len-i-end.ensures.len)) in
     let rest = next_mesh (drop (c.loop-i.i + 1) c.args.set.now.places) (drop (c.loop-i.i + 1) c.args.levels.now) in
     ap (λ places. places ++ rest) c.in_ok-push_leaves_after.ensures
@@ -25,6 +25,8 @@ of-requires c =
     (omega (arith, c.loop-i-test.false, c.loop-i.auto.i-end, c.len-i-end.ensures.len)) in
     let all : c.loop-i.places.items ≡ next_mesh c.args.set.now.places c.args.levels.now =
     sym (append-nil c.loop-i.places.items) ∙ ap (λ left. c.loop-i.places.items ++ left) (sym end) ∙ c.loop-i.invariant in
-    subst (λ grid. IsTiling (record { grid = grid; places = c.loop-i.places.items })) (sym c.domain.ensures.grid)
-    (subst (λ places. IsTiling (record { grid = c.args.set.now.grid; places = places })) (sym all)
-    (IsTiling-next_mesh c.args.set.now c.args.levels.now c.len-i-end.ensures.tiles c.requires.decided))
+    record {
+      tiles = subst (λ grid. IsTiling (record { grid = grid; places = c.loop-i.places.items })) (sym c.domain.ensures.grid)
+          (subst (λ places. IsTiling (record { grid = c.args.set.now.grid; places = places })) (sym all)
+          (IsTiling-next_mesh c.args.set.now c.args.levels.now c.len-i-end.ensures.tiles c.requires.decided));
+    }

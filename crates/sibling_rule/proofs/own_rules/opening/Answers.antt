@@ -12,7 +12,7 @@ loop-i-preserved c =
       opening =
           subst (AreOpening c.args.set.now.grid c.args.set.now.places c.args.wishes.now) (sym c.in_ok-push.ensures.items)
           (AreOpening-push c.args.set.now.grid c.args.set.now.places c.args.wishes.now c.loop-i.levels.items c.loop-i.i c.place.result _ c.opening_level.result
-          c.loop-i.invariant.one_each c.loop-i.invariant.opening c.place.ensures
+          c.loop-i.invariant.one_each c.loop-i.invariant.opening c.place.ensures.leaf
           (slice_get-get_or c.args.wishes.now c.loop-i.i Coarsen within)
           c.opening_level.ensures);
     }

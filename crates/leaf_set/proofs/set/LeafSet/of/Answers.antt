@@ -2,4 +2,4 @@ use Rattle.leaf_set.proofs.MeshLaws.{IsMesh-HasDistinctLeaves}
 use Rattle.leaf_set.proofs.set.LeafSet.of.Goals as goal
 
 pub indexed-requires : goal.indexed-requires
-indexed-requires c = IsMesh-HasDistinctLeaves _ _ c.requires.domain c.requires.mesh
+indexed-requires c = IsMesh-HasDistinctLeaves _ _ c.requires.tiles.domain c.requires.tiles.mesh

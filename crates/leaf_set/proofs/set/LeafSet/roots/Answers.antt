@@ -6,5 +6,7 @@ use Rattle.leaf_set.proofs.set.LeafSet.roots.Goals as goal
 pub of-requires : goal.of-requires
 of-requires c =
     let limits = c.root_places.ensures.limits in
-    subst (λ places. IsTiling (record { grid = c.args.domain; places = places })) (sym c.in_ok-places.ensures.places)
-    (record { domain = limits; mesh = root_mesh-IsMesh c.args.domain limits; balanced = root_mesh-IsBalanced c.args.domain })
+    record {
+      tiles = subst (λ places. IsTiling (record { grid = c.args.domain; places = places })) (sym c.in_ok-places.ensures.places)
+          (record { domain = limits; mesh = root_mesh-IsMesh c.args.domain limits; balanced = root_mesh-IsBalanced c.args.domain });
+    }

@@ -1,0 +1,8 @@
+use Rattle.leaf_set.proofs.Positions.{position-found, position-none}
+use Rattle.leaf_set.proofs.jump.position.Goals as goal
+
+pub returns-clause-found : goal.returns-clause-found
+returns-clause-found c = position-found _ _ _ c.get_index_of.ensures.index
+
+pub returns-clause-none : goal.returns-clause-none
+returns-clause-none c = (position-none _ _ _ (returns-clause-found c) c.get_index_of.ensures.found).0
