@@ -1,0 +1,8 @@
+use Rattle.std.proofs.Common.{◌≡◌, [], take, drop}
+use Rattle.params_check.specs.Firsts.{first_fault}
+use Rattle.params_check.specs.Groups.{keys_of}
+use Rattle.params_check.specs.Walks.{in_turn, sub_faults}
+use Rattle.params_check.proofs.name_walk.walk_subs.Given as goal
+
+abbrev pub invariant-loop-i : goal.invariant-loop-i
+invariant-loop-i l = first_fault (in_turn (sub_faults l.group (keys_of l.kind)) (take l.i l.items) (drop l.i l.items)) ≡ first_fault (in_turn (sub_faults l.group (keys_of l.kind)) [] l.items)

@@ -1,0 +1,13 @@
+pub mod Values
+pub mod Keys
+pub mod Amounts
+pub mod CellCounts
+pub mod Parameters
+pub mod Walks
+pub mod Limits
+pub mod Firsts
+pub mod Entries
+pub mod Groups
+pub mod Grids
+pub mod Examples
+pub mod ReadValues

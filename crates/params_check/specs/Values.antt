@@ -1,0 +1,83 @@
+-- Settings and subs of a tree by their names, and the values of settings.
+use Rattle.std.specs.Prelude.{ℕ, ℤ, pos, List, [], ◌∷◌, ◌++◌, Bool, cond, map, length, nat_abs, nat_eq, Option, Some, None}
+use Rattle.std.specs.Cmp.Lexicographic.{pointwise}
+use Rattle.params_syntax.specs.declared.tree.Atom.{Atom}
+use Rattle.params_syntax.specs.declared.tree.Atom.TheVariants.{Number, Word}
+use Rattle.params_syntax.specs.declared.tree.Value.{Value}
+use Rattle.params_syntax.specs.declared.tree.Value.TheVariants as values
+use Rattle.params_syntax.specs.declared.tree.Setting.{Setting}
+use Rattle.params_syntax.specs.declared.tree.Item.{Item}
+use Rattle.params_syntax.specs.declared.tree.Item.TheVariants.{Set, Sub}
+use Rattle.params_syntax.specs.declared.tree.Group.{Group}
+
+-- two names have the same bytes
+abbrev pub same : List ℕ → List ℕ → Bool
+same a b = pointwise nat_eq a b
+
+-- the items of the first group with a name
+abbrev pub items_of : List ℕ → List Group → List Item
+items_of name [] = []
+items_of name (g ∷ groups) = cond (same g.name name) g.items (items_of name groups)
+
+-- the settings among items
+abbrev pub settings_among : List Item → List Setting
+settings_among [] = []
+settings_among (Set s ∷ items) = s ∷ settings_among items
+settings_among (Sub name sets ∷ items) = settings_among items
+
+-- a sub with its settings
+pub record SubGroup : Type 0 where
+  pub name : List ℕ
+  pub sets : List Setting
+
+-- the subs among items
+abbrev pub subs_among : List Item → List SubGroup
+subs_among [] = []
+subs_among (Set s ∷ items) = subs_among items
+subs_among (Sub name sets ∷ items) = record { name = name; sets = sets } ∷ subs_among items
+
+-- the value of the first setting of a key
+abbrev pub value_of : List ℕ → List Setting → Option Value
+value_of key [] = None
+value_of key (s ∷ sets) = cond (same s.name key) (Some s.value) (value_of key sets)
+
+-- the size of a number, of a word none
+abbrev pub size_of : Atom → ℕ
+size_of (Number z) = nat_abs z
+size_of (Word word) = 0
+
+-- the number, or of a word 0
+abbrev pub number_of : Atom → ℤ
+number_of (Number z) = z
+number_of (Word word) = pos 0
+
+-- the word, or of a number none
+abbrev pub word_of : Atom → List ℕ
+word_of (Number z) = []
+word_of (Word word) = word
+
+-- the value as a number, a word, a list of numbers or a list of words; or what it is otherwise
+abbrev pub size_or : ℕ → Option Value → ℕ
+size_or default None = default
+size_or default (Some (values.Atom atom)) = size_of atom
+size_or default (Some (values.List atoms)) = default
+
+abbrev pub word_or : List ℕ → Option Value → List ℕ
+word_or default None = default
+word_or default (Some (values.Atom atom)) = word_of atom
+word_or default (Some (values.List atoms)) = default
+
+abbrev pub numbers_or : List ℤ → Option Value → List ℤ
+numbers_or default None = default
+numbers_or default (Some (values.Atom atom)) = default
+numbers_or default (Some (values.List atoms)) = map number_of atoms
+
+abbrev pub sizes_or : List ℕ → Option Value → List ℕ
+sizes_or default None = default
+sizes_or default (Some (values.Atom atom)) = default
+sizes_or default (Some (values.List atoms)) = map size_of atoms
+
+abbrev pub words_or : List (List ℕ) → Option Value → List (List ℕ)
+words_or default None = default
+words_or default (Some (values.Atom atom)) = default
+words_or default (Some (values.List atoms)) = map word_of atoms
