@@ -1,18 +1,12 @@
 -- There is an answer to all words and bytes.
-use Rattle.std.proofs.Common.{◌≡◌, ℕ, zero, suc, ◌+◌, ◌*◌, ◌^◌, ◌%◌, ◌≤◌, List, [], ◌∷◌, ◌++◌, Option, Some, None, map, length, get_or, refl, sym, ap, ◌∙◌, subst, arith, ◌⊎◌, inl, inr}
-use Rattle.std.specs.Prelude.{codes}
+use Rattle.std.proofs.Common.{◌≡◌, ℕ, zero, suc, ◌+◌, ◌<◌, ◌≤◌, Bool, true, false, List, [], ◌∷◌, ◌++◌, Option, Some, None, Result, Ok, Err, map, length, get_or, refl, sym, ap, ◌∙◌, subst, arith, ◌⊎◌, inl, inr}
+use Rattle.std.specs.Prelude.{codes, slice_get}
 use Rattle.std.proofs.lemmas.Bool.{cases_lt, cases_eq}
 use Rattle.std.proofs.lemmas.List.{length-map}
-use Rattle.std.proofs.lemmas.Option.{same_Some, none-some}
+use Rattle.std.proofs.lemmas.Option.{same_Some}
 use Rattle.block_index.specs.Places.{Cube, Grid, IsDomain}
 use Rattle.block_index.specs.declared.wish.Wish.{Wish}
-use Rattle.first_form.specs.declared.form.Triple.{Triple}
-use Rattle.first_form.specs.declared.form.MeshGroup.{MeshGroup}
-use Rattle.first_form.specs.declared.form.Region.{Region}
-use Rattle.first_form.specs.declared.form.FirstForm.{FirstForm}
-use Rattle.first_form.specs.Forms.{AtMost, KeepsArray, KeepsBlock, KeepsMesh, KeepsRegion, IsForm}
-use Rattle.first_form.specs.Reading.{form_at}
-use Rattle.first_form.proofs.Texts.{form_at-only, form_at-takes}
+use Rattle.block_index.specs.declared.wish.Wish.TheVariants.{Coarsen, Stay, Refine}
 use Rattle.leaf_set.specs.Meshes.{IsMesh, IsBalanced}
 use Rattle.leaf_set.specs.NextMesh.{next_mesh}
 use Rattle.leaf_set.proofs.RootMeshes.{root_mesh-IsMesh, root_mesh-IsBalanced}
@@ -21,25 +15,26 @@ use Rattle.leaf_set.proofs.NextMeshes.{next_mesh-IsMesh}
 use Rattle.leaf_set.proofs.Balance.{next_mesh-IsBalanced}
 use Rattle.adapt_core.specs.Problem.{unopened}
 use Rattle.adapt_core.proofs.FirstProblems.{problem_exists, begins_exists, plain_run_exists}
-use Rattle.cello_top.specs.declared.fault.Fault.TheVariants.{Usage}
-use Rattle.cello_top.specs.BoxWish.{wish_of}
-use Rattle.cello_top.specs.Words.{IsSolo}
-use Rattle.cello_top.specs.Runs.{IsPlainCount, Adapts, RunState, RunSteps, Runs, form_grid, form_wishes, run_start, run_state}
-use Rattle.cello_top.specs.Answers.{Answer, IsAnswer, other_words, other_text, run, refusal, completion, wrong_form}
+use Rattle.params_syntax.specs.declared.tree.Group.{Group}
+use Rattle.params_syntax.specs.declared.fault.SyntaxFault.{SyntaxFault}
+use Rattle.params_syntax.specs.Reading.{Spells, ReadsAs}
+use Rattle.params_syntax.proofs.EachReads.{each_reads}
+use Rattle.params_check.specs.declared.fault.ParamFault.{ParamFault}
+use Rattle.params_check.specs.Parameters.{Parameters}
+use Rattle.params_check.specs.Walks.{parameters_of}
+use Rattle.params_check.proofs.NoFaults.{accepted-limits}
+use Rattle.cello_top.specs.declared.fault.Fault.{Fault}
+use Rattle.cello_top.specs.declared.fault.Fault.TheVariants.{Usage, Syntax, Param, LevelLimit, BlockLimit}
+use Rattle.cello_top.specs.Words.{IsSolo, IsCheck}
+use Rattle.cello_top.specs.Texts.{HasParameters, HasTextFault, of_syntax, of_parameters, unbuilt}
+use Rattle.cello_top.specs.Wishes.{wish_of, wishes_in}
+use Rattle.cello_top.specs.Runs.{IsPlainCount, KeepsLevelLimit, Adapts, PassesLimit, of_level, of_blocks, RunState, RunSteps, Runs, RunEnds, after_all, at_limit, run_start, run_state}
+use Rattle.cello_top.specs.Answers.{Answer, IsAnswer, other_words, other_text, checked, not_built, run, refusal, run_answer, text_answer}
 
 -- ---- decisions
 
-both_cases : {A B : Type 0} → A ⊎ (A → ⊥) → B ⊎ (B → ⊥) → (A × B) ⊎ (A × B → ⊥)
-both_cases (inl a) (inl b) = inl (a, b)
-both_cases (inl a) (inr n) = inr (λ h. n h.1)
-both_cases (inr n) b = inr (λ h. n h.0)
-
-as_cases : {A B : Type 0} → (A → B) → (B → A) → A ⊎ (A → ⊥) → B ⊎ (B → ⊥)
-as_cases there back (inl a) = inl (there a)
-as_cases there back (inr n) = inr (λ b. n (back b))
-
-le_cases : (a b : ℕ) → (a ≤ b) ⊎ (a ≤ b → ⊥)
-le_cases a b = elim (cases_lt b a) [ inl less ↦ inr (λ h. omega arith) | inr enough ↦ inl enough ]
+le_cases : (a b : ℕ) → (a ≤ b) ⊎ (b < a)
+le_cases a b = elim (cases_lt b a) [ inl less ↦ inr less | inr enough ↦ inl enough ]
 
 rest_of : {A : Type 0} → List A → List A
 rest_of [] = []
@@ -69,50 +64,56 @@ list_cases {A} each (x ∷ xs) (y ∷ ys) =
 solo_cases : (words : List (List ℕ)) → IsSolo words ⊎ (IsSolo words → ⊥)
 solo_cases words = list_cases (list_cases cases_eq) words (codes "solo" ∷ [])
 
-at_most_cases : (t : Triple) (most : ℕ) → AtMost t most ⊎ (AtMost t most → ⊥)
-at_most_cases t most =
-    as_cases (λ h. record { x = h.0; y = h.1.0; z = h.1.1 }) (λ h. (h.x, (h.y, h.z)))
-    (both_cases (le_cases t.x most) (both_cases (le_cases t.y most) (le_cases t.z most)))
+check_cases : (words : List (List ℕ)) → IsCheck words ⊎ (IsCheck words → ⊥)
+check_cases words = list_cases (list_cases cases_eq) words (codes "check" ∷ [])
 
-array_cases : (t : Triple) → KeepsArray t ⊎ (KeepsArray t → ⊥)
-array_cases t =
-    as_cases (λ h. record { some_x = h.0; some_y = h.1.0; some_z = h.1.1.0; most = h.1.1.1 }) (λ h. (h.some_x, (h.some_y, (h.some_z, h.most))))
-    (both_cases (le_cases 1 t.x) (both_cases (le_cases 1 t.y) (both_cases (le_cases 1 t.z) (at_most_cases t 16))))
+true_cases : (b : Bool) → (b ≡ true) ⊎ (b ≡ true → ⊥)
+true_cases true = inl refl
+true_cases false = inr (λ e. cc)
 
-block_cases : (block : ℕ) → KeepsBlock block ⊎ (KeepsBlock block → ⊥)
-block_cases block =
-    as_cases (λ h. record { low = h.0; high = h.1.0; even = h.1.1 }) (λ h. (h.low, (h.high, h.even)))
-    (both_cases (le_cases 4 block) (both_cases (le_cases block 16) (cases_eq (block % 2) 0)))
+refine_cases : (w : Wish) → (w ≡ Refine) ⊎ (w ≡ Refine → ⊥)
+refine_cases Coarsen = inr (λ e. cc)
+refine_cases Stay = inr (λ e. cc)
+refine_cases Refine = inl refl
 
-mesh_cases : (m : MeshGroup) → KeepsMesh m ⊎ (KeepsMesh m → ⊥)
-mesh_cases m =
-    as_cases (λ h. record { array = h.0; block = h.1.0; max_level = h.1.1.0; rounds = h.1.1.1.0; leaves = h.1.1.1.1 }) (λ h. (h.array, (h.block, (h.max_level, (h.rounds, h.leaves)))))
-    (both_cases (array_cases m.array) (both_cases (block_cases m.block) (both_cases (le_cases m.max_level 6) (both_cases (le_cases m.rounds 12)
-    (le_cases (m.array.x * m.array.y * m.array.z * 8 ^ m.max_level) 4096)))))
+-- the first element of a list with a property that can be decided
+record FirstWith (Q : Cube → Type 0) (mesh : List Cube) : Type 0 where
+  i : ℕ
+  place : Cube
+  is : slice_get mesh i ≡ Some place
+  has : Q place
+  none_before : (j : ℕ) (c : Cube) → j < i → slice_get mesh j ≡ Some c → Q c → ⊥
 
-region_cases : (r : Region) → KeepsRegion r ⊎ (KeepsRegion r → ⊥)
-region_cases r =
-    as_cases (λ h. record { low = h.0; high = h.1.0; level = h.1.1 }) (λ h. (h.low, (h.high, h.level)))
-    (both_cases (at_most_cases r.low 256) (both_cases (at_most_cases r.high 256) (le_cases r.level 6)))
+find : (Q : Cube → Type 0) → ((c : Cube) → Q c ⊎ (Q c → ⊥)) → (mesh : List Cube)
+    → FirstWith Q mesh ⊎ ((j : ℕ) (c : Cube) → slice_get mesh j ≡ Some c → Q c → ⊥)
+find Q cases [] = inr (λ j c at has. cc)
+find Q cases (a ∷ mesh) =
+    elim (cases a) [
+      | inl has ↦ inl (record { i = 0; place = a; is = refl; has = has; none_before = λ j c below at q. absurd (omega arith) })
+      | inr hasnt ↦
+          elim (find Q cases mesh) [
+            | inl h ↦
+                inl (record {
+                  i = suc h.i;
+                  place = h.place;
+                  is = h.is;
+                  has = h.has;
+                  none_before = λ j c below at q. before a mesh h hasnt j c below at q;
+                })
+            | inr none ↦ inr (λ j c at q. after a mesh hasnt none j c at q)
+          ]
+    ]
+  where
+    before : (a : Cube) (mesh : List Cube) (h : FirstWith Q mesh) → (Q a → ⊥) → (j : ℕ) (c : Cube) → j < suc h.i → slice_get (a ∷ mesh) j ≡ Some c → Q c → ⊥
+    before a mesh h hasnt zero c below at q = hasnt (subst Q (sym (same_Some a c at)) q)
+    before a mesh h hasnt (suc j) c below at q = h.none_before j c (omega arith) at q
 
-form_cases : (f : FirstForm) → IsForm f ⊎ (IsForm f → ⊥)
-form_cases f =
-    as_cases (λ h. record { mesh = h.0; region = h.1 }) (λ h. (h.mesh, h.region)) (both_cases (mesh_cases f.mesh) (region_cases f.region))
+    after : (a : Cube) (mesh : List Cube) → (Q a → ⊥) → ((j : ℕ) (c : Cube) → slice_get mesh j ≡ Some c → Q c → ⊥)
+        → (j : ℕ) (c : Cube) → slice_get (a ∷ mesh) j ≡ Some c → Q c → ⊥
+    after a mesh hasnt none zero c at q = hasnt (subst Q (sym (same_Some a c at)) q)
+    after a mesh hasnt none (suc j) c at q = none j c at q
 
 -- ---- runs
-
-IsDomain-form : (f : FirstForm) → IsForm f → IsDomain (form_grid f)
-IsDomain-form f is =
-    let array = is.mesh.array in
-    record {
-      some_x = array.some_x;
-      some_y = array.some_y;
-      some_z = array.some_z;
-      most_x = array.most.x;
-      most_y = array.most.y;
-      most_z = array.most.z;
-      finest = is.mesh.max_level;
-    }
 
 plain_count_exists : (grid : Grid) (mesh : List Cube) (wishes : List Wish) → IsDomain grid → IsMesh grid mesh → IsBalanced grid mesh → length wishes ≡ length mesh → (count : ℕ) × IsPlainCount grid mesh wishes count
 plain_count_exists grid mesh wishes g m balanced long =
@@ -133,61 +134,151 @@ plain_count_exists grid mesh wishes g m balanced long =
       },
     )
 
-record OneMore (f : FirstForm) (before : List Cube) : Type 0 where
-  after : List Cube
-  count : ℕ
-  adapts : Adapts f before after count
-  mesh : IsMesh (form_grid f) after
-  balanced : IsBalanced (form_grid f) after
+module _ (p : Parameters) (g : IsDomain p.grid) where
+  TooFine : ℕ → Cube → Type 0
+  TooFine phase c = (c.level ≡ p.grid.finest) × (wish_of p phase c ≡ Refine)
 
-one_more : (f : FirstForm) (before : List Cube) → IsDomain (form_grid f) → IsMesh (form_grid f) before → IsBalanced (form_grid f) before → OneMore f before
-one_more f before g m balanced =
-    let grid : Grid = form_grid f in
-    let wishes : List Wish = form_wishes f before in
-    let least = least_exists grid before wishes g m balanced in
-    let levels : List ℕ = least.0 in
-    let s = least.1.solves in
-    let plain = plain_count_exists grid before wishes g m balanced (length-map before (wish_of f.mesh.block f.region)) in
-    record {
-      after = next_mesh before levels;
-      count = plain.0;
-      adapts = record { levels = levels; least = least.1; next = refl; plain = plain.1 };
-      mesh = next_mesh-IsMesh grid before levels g m s.one_each s.range s.lone s.siblings;
-      balanced = next_mesh-IsBalanced grid before levels g m s.range s.jump s.lone s.siblings;
-    }
+  too_fine_cases : (phase : ℕ) (c : Cube) → ((c.level ≡ p.grid.finest) × (wish_of p phase c ≡ Refine)) ⊎ ((c.level ≡ p.grid.finest) × (wish_of p phase c ≡ Refine) → ⊥)
+  too_fine_cases phase c =
+      elim (cases_eq c.level p.grid.finest) [
+        | inr n ↦ inr (λ h. n h.0)
+        | inl finest ↦ elim (refine_cases (wish_of p phase c)) [ inr n ↦ inr (λ h. n h.1) | inl refine ↦ inl (finest, refine) ]
+      ]
 
-record Ran (f : FirstForm) (phases : ℕ) : Type 0 where
-  state : RunState
-  runs : Runs f phases state
-  mesh : IsMesh (form_grid f) state.mesh
-  balanced : IsBalanced (form_grid f) state.mesh
+  level_limit_cases : (phase : ℕ) (mesh : List Cube) → KeepsLevelLimit p phase mesh ⊎ ((fault : Fault) × PassesLimit p phase mesh fault)
+  level_limit_cases phase mesh =
+      elim (true_cases p.strict) [
+        | inr loose ↦ inl (λ strict i place a. loose strict)
+        | inl strict ↦
+            elim (find (λ c. (c.level ≡ p.grid.finest) × (wish_of p phase c ≡ Refine)) (too_fine_cases phase) mesh) [
+              | inl h ↦
+                  inr (
+                    LevelLimit phase h.place,
+                    of_level h.i h.place strict (record { leaf = h.is; finest = h.has.0; refine = h.has.1 })
+                        (λ j c below a. h.none_before j c below a.leaf (a.finest, a.refine)) refl,
+                  )
+              | inr none ↦ inl (λ strict i place a. none i place a.leaf (a.finest, a.refine))
+            ]
+      ]
 
-ran : (f : FirstForm) (phases : ℕ) → IsDomain (form_grid f) → Ran f phases
-ran f zero g = record { state = run_start f; runs = refl; mesh = root_mesh-IsMesh (form_grid f) g; balanced = root_mesh-IsBalanced (form_grid f) }
-ran f (suc phases) g =
-    let before = ran f phases g in
-    let s : RunState = before.state in
-    let more = one_more f s.mesh g before.mesh before.balanced in
-    let t : RunState = run_state more.after (s.leaves ++ length more.after ∷ []) (s.handled + more.count) in
-    let step : RunSteps f s t = record { count = more.count; adapts = more.adapts; leaves = refl; handled = refl } in
-    record { state = t; runs = (s, before.runs, step); mesh = more.mesh; balanced = more.balanced }
+  record OneMore (phase : ℕ) (before : List Cube) : Type 0 where
+    after : List Cube
+    count : ℕ
+    adapts : Adapts p phase before after count
+    mesh : IsMesh p.grid after
+    balanced : IsBalanced p.grid after
+
+  one_more : (phase : ℕ) (before : List Cube) → IsMesh p.grid before → IsBalanced p.grid before
+      → OneMore phase before ⊎ ((fault : Fault) × PassesLimit p phase before fault)
+  one_more phase before m balanced =
+      elim (level_limit_cases phase before) [
+        | inr passes ↦ inr passes
+        | inl keeps ↦
+            let grid : Grid = p.grid in
+            let wishes : List Wish = wishes_in p phase before in
+            let least = least_exists grid before wishes g m balanced in
+            let levels : List ℕ = least.0 in
+            let s = least.1.solves in
+            let plain = plain_count_exists grid before wishes g m balanced (length-map before (wish_of p phase)) in
+            elim (le_cases (length (next_mesh before levels)) p.max_blocks) [
+              | inr many ↦
+                  inr (
+                    BlockLimit phase (length (next_mesh before levels)) p.max_blocks,
+                    of_blocks levels keeps least.1 many refl,
+                  )
+              | inl fits ↦
+                  inl (record {
+                    after = next_mesh before levels;
+                    count = plain.0;
+                    adapts = record { level_limit = keeps; levels = levels; least = least.1; next = refl; block_limit = fits; plain = plain.1 };
+                    mesh = next_mesh-IsMesh grid before levels g m s.one_each s.range s.lone s.siblings;
+                    balanced = next_mesh-IsBalanced grid before levels g m s.range s.jump s.lone s.siblings;
+                  })
+            ]
+      ]
+
+  record Ran (phases : ℕ) : Type 0 where
+    state : RunState
+    runs : Runs p phases state
+    mesh : IsMesh p.grid state.mesh
+    balanced : IsBalanced p.grid state.mesh
+
+  record Stopped (bound : ℕ) : Type 0 where
+    phases : ℕ
+    state : RunState
+    fault : Fault
+    below : phases < bound
+    runs : Runs p phases state
+    passes : PassesLimit p (suc phases) state.mesh fault
+
+  course : (phases : ℕ) → Ran phases ⊎ Stopped phases
+  course zero = inl (record { state = run_start p; runs = refl; mesh = root_mesh-IsMesh p.grid g; balanced = root_mesh-IsBalanced p.grid })
+  course (suc phases) =
+      elim (course phases) [
+        | inr stopped ↦
+            inr (record {
+              phases = stopped.phases;
+              state = stopped.state;
+              fault = stopped.fault;
+              below = omega (arith, stopped.below);
+              runs = stopped.runs;
+              passes = stopped.passes;
+            })
+        | inl before ↦
+            let s : RunState = before.state in
+            elim (one_more (suc phases) s.mesh before.mesh before.balanced) [
+              | inr h ↦ inr (record { phases = phases; state = s; fault = h.0; below = omega arith; runs = before.runs; passes = h.1 })
+              | inl more ↦
+                  let t : RunState = run_state more.after (s.leaves ++ length more.after ∷ []) (s.handled + more.count) in
+                  let step : RunSteps p (suc phases) s t = record { count = more.count; adapts = more.adapts; leaves = refl; handled = refl } in
+                  inl (record { state = t; runs = (s, before.runs, step); mesh = more.mesh; balanced = more.balanced })
+            ]
+      ]
+
+  run_exists : (s : RunState) × (limit : Option Fault) × RunEnds p s limit
+  run_exists =
+      elim (course p.rounds) [
+        | inl h ↦ (h.state, None, after_all h.runs refl)
+        | inr h ↦ (h.state, Some h.fault, at_limit h.phases h.fault h.below h.runs h.passes refl)
+      ]
 
 -- ---- answers
+
+-- a text has its parameters or its first fault
+text_cases : (bytes : List ℕ) → ((p : Parameters) × HasParameters bytes p) ⊎ ((fault : Fault) × HasTextFault bytes fault)
+text_cases bytes = go (each_reads bytes).0 (each_reads bytes).1
+  where
+    of : (groups : List Group) → Spells bytes groups → (r : Result Parameters ParamFault) → parameters_of groups ≡ r
+        → ((p : Parameters) × HasParameters bytes p) ⊎ ((fault : Fault) × HasTextFault bytes fault)
+    of groups spelled (Ok p) e = inl (p, record { groups = groups; spelled = spelled; accepted = e })
+    of groups spelled (Err f) e = inr (Param f, of_parameters groups f spelled e refl)
+
+    go : (r : Result (List Group) SyntaxFault) → ReadsAs bytes r → ((p : Parameters) × HasParameters bytes p) ⊎ ((fault : Fault) × HasTextFault bytes fault)
+    go (Ok groups) spelled = of groups spelled (parameters_of groups) refl
+    go (Err f) faulty = inr (Syntax f, of_syntax f faulty refl)
+
+solo_answer : (words : List (List ℕ)) (bytes : List ℕ) (p : Parameters) → IsSolo words → HasParameters bytes p → (o : Option Fault) → unbuilt p ≡ o → (a : Answer) × IsAnswer words bytes a
+solo_answer words bytes p solo has (Some fault) e = (refusal fault, not_built p fault solo has e refl)
+solo_answer words bytes p solo has None e =
+    let limits = accepted-limits has.groups p has.spelled.limits has.accepted in
+    let h = run_exists p limits.domain in
+    (run_answer h.0 h.1, run p h.0 h.1 solo has e h.2 refl)
 
 pub answer_exists : (words : List (List ℕ)) (bytes : List ℕ) → (a : Answer) × IsAnswer words bytes a
 answer_exists words bytes =
     elim (solo_cases words) [
-      | inr other ↦ (refusal Usage, other_words other refl)
-      | inl solo ↦ go solo (form_at bytes) refl
+      | inl solo ↦
+          elim (text_cases bytes) [
+            | inl h ↦ solo_answer words bytes h.0 solo h.1 (unbuilt h.0) refl
+            | inr h ↦ (refusal h.0, other_text h.0 (inl solo) h.1 refl)
+          ]
+      | inr not_solo ↦
+          elim (check_cases words) [
+            | inl check ↦
+                elim (text_cases bytes) [
+                  | inl h ↦ (text_answer h.0, checked h.0 check h.1 refl)
+                  | inr h ↦ (refusal h.0, other_text h.0 (inr check) h.1 refl)
+                ]
+            | inr not_check ↦ (refusal Usage, other_words (λ set. elim set [ inl solo ↦ not_solo solo | inr check ↦ not_check check ]) refl)
+          ]
     ]
-  where
-    go : IsSolo words → (o : Option FirstForm) → form_at bytes ≡ o → (a : Answer) × IsAnswer words bytes a
-    go solo None e = (refusal wrong_form, other_text solo (λ f is spelled. none-some f (sym e ∙ form_at-only bytes f is spelled)) refl)
-    go solo (Some f) e =
-        elim (form_cases f) [
-          | inl is ↦
-              let all = ran f f.mesh.rounds (IsDomain-form f is) in
-              (completion all.state, run f all.state solo is (form_at-takes bytes f e) all.runs refl)
-          | inr past ↦
-              (refusal wrong_form, other_text solo (λ g is spelled. past (subst (λ (x : FirstForm). IsForm x) (same_Some g f (sym (form_at-only bytes g is spelled) ∙ e)) is)) refl)
-        ]

@@ -1,21 +1,19 @@
--- How a call of `solo` ends, from how its steps end.
-use Rattle.std.proofs.Common.{◌≡◌, ℕ, ◌<◌, ◌≤◌, Bool, List, [], length, take, Option, Some, None, refl, sym, ap, subst, ◌∙◌, arith, ◌⊎◌, inl, inr}
+-- How a call of `solo` ends, from how its command ends.
+use Rattle.std.proofs.Common.{◌≡◌, ℕ, Bool, List, take, Option, Some, None, refl, sym, subst, ◌∙◌, ◌⊎◌, inl, inr}
 use Rattle.std.specs.Prelude.{IfSome}
-use Rattle.std.specs.Io.KnownBytes.{append_known}
-use Rattle.std.proofs.lemmas.List.{length-take, take_all}
-use Rattle.std.proofs.lemmas.Option.{same_Some}
 use Rattle.cello_io.proofs.WriteLemmas.{append_known-nil}
-use Rattle.first_form.specs.declared.form.FirstForm.{FirstForm}
-use Rattle.first_form.specs.Forms.{IsForm, form_text}
-use Rattle.first_form.proofs.Lengths.{form_text-short}
+use Rattle.params_check.specs.Parameters.{Parameters}
 use Rattle.cello_top.specs.declared.fault.Fault.{Fault}
-use Rattle.cello_top.specs.declared.fault.Fault.TheVariants.{Usage, Param, ReadFault, WriteFault, Memory}
+use Rattle.cello_top.specs.declared.fault.Fault.TheVariants.{Usage, Syntax, Param, Unbuilt, LevelLimit, BlockLimit, ReadFault, WriteFault, Memory}
 use Rattle.cello_top.specs.declared.outcome.Outcome.{Outcome}
-use Rattle.cello_top.specs.Words.{IsSolo}
-use Rattle.cello_top.specs.Answers.{IsAnswer, other_words, other_text, run, refusal, completion, wrong_form, bytes_of, actions}
-use Rattle.cello_top.specs.Runs.{RunState, Runs}
-use Rattle.cello_top.specs.Solo.{ReadOut, IsDecided, SawText, Answers, AnswersInPart, read_limit}
-use Rattle.cello_top.specs.Steps.{HasNoForm, HasForm, LacksForm, RanText, Reported, ReportedInPart, RunningEnds}
+use Rattle.cello_top.specs.Words.{IsSolo, IsCheck, IsCommand}
+use Rattle.cello_top.specs.Texts.{HasParameters, unbuilt}
+use Rattle.cello_top.specs.Runs.{MeetsNoLimit}
+use Rattle.cello_top.specs.Answers.{Answer, IsAnswer, other_words, other_text, checked, not_built, run, refusal}
+use Rattle.cello_top.specs.Solo.{ReadOut, IsDecided, SawText, CameToWrite, Answers, AnswersInPart, read_limit}
+use Rattle.cello_top.specs.Steps.{Decided, CommandEnds}
+use Rattle.cello_top.proofs.Texts.{front_HasParameters, front_HasTextFault}
+use Rattle.cello_top.proofs.OneAnswer.{completes, completes_check}
 
 IfSome-from : {A : Type 0} (P : A → Type 0) (o : Option A) → ((x : A) → o ≡ Some x → P x) → IfSome o P
 IfSome-from P (Some x) go = go x refl
@@ -25,20 +23,16 @@ IfSome-from P None go = tt
 read_are : (old new : Option (List ℕ)) (ended : Bool) (bytes all : List ℕ) → old ≡ Some all → ReadOut old new ended bytes → bytes ≡ take read_limit all
 read_are old new ended bytes all is read = subst (λ o. IfSome o (λ xs. bytes ≡ take read_limit xs)) is read.told
 
--- a form's text is all of the bytes where it is those that were read
-pub full_text : (f : FirstForm) (bytes all : List ℕ) → IsForm f → bytes ≡ take read_limit all → bytes ≡ form_text f → all ≡ form_text f
-full_text f bytes all limits front spelled =
-    let short : length bytes ≤ 1000 = subst (λ xs. length xs ≤ 1000) (sym spelled) (form_text-short f limits) in
-    let all_short : length all ≤ read_limit = omega (arith, ap length front, length-take read_limit all) in
-    sym (take_all read_limit all all_short) ∙ sym front ∙ spelled
-
-pub read_text : (f : FirstForm) (bytes all : List ℕ) → IsForm f → bytes ≡ take read_limit all → all ≡ form_text f → bytes ≡ form_text f
-read_text f bytes all limits front spelled =
-    let short : length all ≤ 1000 = subst (λ xs. length xs ≤ 1000) (sym spelled) (form_text-short f limits) in
-    front ∙ take_all read_limit all (omega arith) ∙ spelled
+-- the answer to what was read is that to all
+front_IsAnswer : (words : List (List ℕ)) (all bytes : List ℕ) (a : Answer) → bytes ≡ take read_limit all → IsAnswer words bytes a → IsAnswer words all a
+front_IsAnswer words all bytes a front (other_words other e) = other_words other e
+front_IsAnswer words all bytes a front (other_text f set faulty e) = other_text f set (front_HasTextFault all bytes f front faulty) e
+front_IsAnswer words all bytes a front (checked p check has e) = checked p check (front_HasParameters all bytes p front has) e
+front_IsAnswer words all bytes a front (not_built p f solo has some e) = not_built p f solo (front_HasParameters all bytes p front has) some e
+front_IsAnswer words all bytes a front (run p s limit solo has none ends e) = run p s limit solo (front_HasParameters all bytes p front has) none ends e
 
 -- words outside the set
-pub usage-answer : (words : List (List ℕ)) (known left : Option (List ℕ)) (outcome : Outcome) → (IsSolo words → ⊥) → outcome.fault ≡ Some Usage → outcome.handled ≡ 0
+pub usage-answer : (words : List (List ℕ)) (known left : Option (List ℕ)) (outcome : Outcome) → (IsCommand words → ⊥) → outcome.fault ≡ Some Usage → outcome.handled ≡ 0
     → IfSome left (λ bytes. IsDecided outcome.fault → Answers words bytes outcome known known)
 usage-answer words known left outcome other fault handled =
     IfSome-from _ left (λ bytes is decided. record {
@@ -47,90 +41,135 @@ usage-answer words known left outcome other fault handled =
       keeps = record { fault = fault; handled = handled; written = sym (append_known-nil known) };
     })
 
-module _ (words : List (List ℕ)) (solo : IsSolo words) (old new : Option (List ℕ)) (ended : Bool) (before after : Option (List ℕ)) where
-  ran-answer : (all : List ℕ) → old ≡ Some all → (s : RunState) → RanText old new ended s → IsAnswer words all (completion s)
-  ran-answer all is s ran =
-      let h = ran.has_form in
-      run ran.form s solo h.limits (full_text ran.form h.bytes all h.limits (read_are old new ended h.bytes all is h.read) h.spelled) ran.runs refl
+module _ (words : List (List ℕ)) (old new : Option (List ℕ)) (ended : Bool) (before after : Option (List ℕ)) (read_rose write_rose unwritten : Type 0) where
+  Ends : Option Fault → ℕ → Type 0
+  Ends fault handled = CommandEnds words fault handled old new ended before after read_rose write_rose unwritten
 
-  pub done-answer : (handled : ℕ) (outcome : Outcome) → outcome.fault ≡ None → outcome.handled ≡ handled → Reported old new ended before after handled
+  decided : (fault : Option Fault) (handled : ℕ) → CommandEnds words fault handled old new ended before after read_rose write_rose unwritten → IsDecided fault
+      → Decided words fault handled old new ended before after
+  decided None handled ends is = ends
+  decided (Some Usage) handled ends is = absurd ends
+  decided (Some (Syntax f)) handled ends is = ends.0
+  decided (Some (Param f)) handled ends is = ends.0
+  decided (Some (Unbuilt group key)) handled ends is = ends.0
+  decided (Some (LevelLimit phase place)) handled ends is = ends
+  decided (Some (BlockLimit phase count limit)) handled ends is = ends
+  decided (Some ReadFault) handled ends is = absurd is
+  decided (Some WriteFault) handled ends is = absurd is
+  decided (Some Memory) handled ends is = absurd is
+
+  pub ends-answer : (fault : Option Fault) (handled : ℕ) (outcome : Outcome) → outcome.fault ≡ fault → outcome.handled ≡ handled
+      → CommandEnds words fault handled old new ended before after read_rose write_rose unwritten
       → IfSome old (λ bytes. IsDecided outcome.fault → Answers words bytes outcome before after)
-  done-answer handled outcome fault count reported =
-      IfSome-from _ old (λ all is decided. record {
-        answer = completion reported.state;
-        is = ran-answer all is reported.state reported.ran;
-        keeps = record { fault = fault; handled = count ∙ reported.count; written = reported.written };
+  ends-answer fault handled outcome is count ends =
+      IfSome-from _ old (λ all told settled.
+      let d = decided fault handled ends (subst IsDecided is settled) in
+      record {
+        answer = d.answer;
+        is = front_IsAnswer words all d.bytes d.answer (read_are old new ended d.bytes all told d.read) d.is;
+        keeps = record { fault = is ∙ d.same_fault; handled = count ∙ d.same_handled; written = d.written };
       })
 
-  lacks-form : (all : List ℕ) → old ≡ Some all → LacksForm old new ended → HasNoForm all
-  lacks-form all is lacks form limits spelled =
-      lacks.formless form limits (read_text form lacks.bytes all limits (read_are old new ended lacks.bytes all is lacks.read) spelled)
+  pub ends-part : (fault : Option Fault) (handled : ℕ) (outcome : Outcome) → outcome.fault ≡ fault
+      → CommandEnds words fault handled old new ended before after read_rose write_rose unwritten
+      → IfSome old (λ bytes. outcome.fault ≡ Some WriteFault → AnswersInPart words bytes before after)
+  ends-part fault handled outcome is ends =
+      IfSome-from _ old (λ all told failed.
+      let d = (subst (λ f. CommandEnds words f handled old new ended before after read_rose write_rose unwritten) (sym is ∙ failed) ends).1 in
+      record {
+        answer = d.answer;
+        is = front_IsAnswer words all d.bytes d.answer (read_are old new ended d.bytes all told d.read) d.is;
+        part = d.part;
+      })
 
-  module _ (read_rose write_rose unwritten : Type 0) (same : unwritten → after ≡ before) where
-    Ends : Fault → Type 0
-    Ends fault = RunningEnds fault old new ended before after read_rose write_rose unwritten
+  pub ends-read : (fault : Option Fault) (handled : ℕ) (outcome : Outcome) → outcome.fault ≡ fault
+      → CommandEnds words fault handled old new ended before after read_rose write_rose unwritten
+      → SawText outcome.fault → (bytes : List ℕ) × ReadOut old new ended bytes
+  ends-read fault handled outcome is ends saw = go fault ends (subst SawText is saw)
+    where
+      of : (f : Option Fault) → Decided words f handled old new ended before after → (bytes : List ℕ) × ReadOut old new ended bytes
+      of f d = (d.bytes, d.read)
 
-    pub ended-answer : (fault : Fault) (outcome : Outcome) → outcome.fault ≡ Some fault → outcome.handled ≡ 0
-        → RunningEnds fault old new ended before after read_rose write_rose unwritten
-        → IfSome old (λ bytes. IsDecided outcome.fault → Answers words bytes outcome before after)
-    ended-answer fault outcome is handled ends = IfSome-from _ old (λ all told decided. go fault is ends all told (subst IsDecided is decided))
-      where
-        go : (f : Fault) → outcome.fault ≡ Some f → RunningEnds f old new ended before after read_rose write_rose unwritten
-            → (all : List ℕ) → old ≡ Some all → IsDecided (Some f) → Answers words all outcome before after
-        go Usage e end all told decided = absurd end
-        go (Param p) e end all told decided = record {
-          answer = refusal wrong_form;
-          is = other_text solo (lacks-form all told end.0.1) refl;
-          keeps = record {
-            fault = e ∙ ap Some end.0.0;
-            handled = handled;
-            written = same end.1 ∙ sym (append_known-nil before);
-          };
-        }
-        go ReadFault e end all told decided = absurd decided
-        go WriteFault e end all told decided = absurd decided
-        go Memory e end all told decided = absurd decided
+      go : (f : Option Fault) → CommandEnds words f handled old new ended before after read_rose write_rose unwritten → SawText f
+          → (bytes : List ℕ) × ReadOut old new ended bytes
+      go None e saw = of None e
+      go (Some Usage) e saw = absurd e
+      go (Some (Syntax f)) e saw = of (Some (Syntax f)) e.0
+      go (Some (Param f)) e saw = of (Some (Param f)) e.0
+      go (Some (Unbuilt group key)) e saw = of (Some (Unbuilt group key)) e.0
+      go (Some (LevelLimit phase place)) e saw = of (Some (LevelLimit phase place)) e
+      go (Some (BlockLimit phase count limit)) e saw = of (Some (BlockLimit phase count limit)) e
+      go (Some ReadFault) e saw = absurd saw
+      go (Some WriteFault) e saw = (e.1.bytes, e.1.read)
+      go (Some Memory) e saw = absurd saw
 
-    pub ended-part : (fault : Fault) (outcome : Outcome) → outcome.fault ≡ Some fault
-        → RunningEnds fault old new ended before after read_rose write_rose unwritten
-        → IfSome old (λ bytes. outcome.fault ≡ Some WriteFault → AnswersInPart words bytes before after)
-    ended-part fault outcome is ends = IfSome-from _ old (λ all told failed. go fault (same_Some fault WriteFault (sym is ∙ failed)) ends all told)
-      where
-        go : (f : Fault) → f ≡ WriteFault → RunningEnds f old new ended before after read_rose write_rose unwritten
-            → (all : List ℕ) → old ≡ Some all → AnswersInPart words all before after
-        go Usage e end all told = absurd end
-        go (Param p) e end all told = absurd cc
-        go ReadFault e end all told = absurd cc
-        go WriteFault e end all told = record {
-          answer = completion end.1.state;
-          is = ran-answer all told end.1.state end.1.ran;
-          part = end.1.part;
-        }
-        go Memory e end all told = absurd cc
+  pub ends-unwritten : (fault : Option Fault) (handled : ℕ) (outcome : Outcome) → outcome.fault ≡ fault
+      → CommandEnds words fault handled old new ended before after read_rose write_rose unwritten
+      → (CameToWrite outcome.fault → ⊥) → unwritten
+  ends-unwritten fault handled outcome is ends early = go fault ends (λ came. early (subst CameToWrite (sym is) came))
+    where
+      go : (f : Option Fault) → CommandEnds words f handled old new ended before after read_rose write_rose unwritten → (CameToWrite f → ⊥) → unwritten
+      go None e early = absurd (early tt)
+      go (Some Usage) e early = absurd e
+      go (Some (Syntax f)) e early = e.1
+      go (Some (Param f)) e early = e.1
+      go (Some (Unbuilt group key)) e early = e.1
+      go (Some (LevelLimit phase place)) e early = absurd (early tt)
+      go (Some (BlockLimit phase count limit)) e early = absurd (early tt)
+      go (Some ReadFault) e early = e.1
+      go (Some WriteFault) e early = absurd (early tt)
+      go (Some Memory) e early = e
 
-    pub ended-read : (fault : Fault) (outcome : Outcome) → outcome.fault ≡ Some fault
-        → RunningEnds fault old new ended before after read_rose write_rose unwritten
-        → SawText outcome.fault → (bytes : List ℕ) × ReadOut old new ended bytes
-    ended-read fault outcome is ends saw = go fault ends (subst SawText is saw)
-      where
-        go : (f : Fault) → RunningEnds f old new ended before after read_rose write_rose unwritten → SawText (Some f) → (bytes : List ℕ) × ReadOut old new ended bytes
-        go Usage end saw = absurd saw
-        go (Param p) end saw = (end.0.1.bytes, end.0.1.read)
-        go ReadFault end saw = absurd saw
-        go WriteFault end saw = (end.1.ran.has_form.bytes, end.1.ran.has_form.read)
-        go Memory end saw = absurd saw
+  pub ends-read_cause : (fault : Option Fault) (handled : ℕ) (outcome : Outcome) → outcome.fault ≡ fault
+      → CommandEnds words fault handled old new ended before after read_rose write_rose unwritten → outcome.fault ≡ Some ReadFault → read_rose
+  ends-read_cause fault handled outcome is ends failed =
+      (subst (λ f. CommandEnds words f handled old new ended before after read_rose write_rose unwritten) (sym is ∙ failed) ends).0
 
-    pub ended-complete : (fault : Fault) (outcome : Outcome) → outcome.fault ≡ Some fault
-        → RunningEnds fault old new ended before after read_rose write_rose unwritten
-        → IfSome old (λ bytes. (form : FirstForm) → IsSolo words → IsForm form → bytes ≡ form_text form → (read_rose → ⊥) → (write_rose → ⊥)
-        → (outcome.fault ≡ None) ⊎ (outcome.fault ≡ Some Memory))
-    ended-complete fault outcome is ends = IfSome-from _ old (λ all told form set limits spelled no_read no_write. go fault is ends all told form limits spelled no_read no_write)
-      where
-        go : (f : Fault) → outcome.fault ≡ Some f → RunningEnds f old new ended before after read_rose write_rose unwritten
-            → (all : List ℕ) → old ≡ Some all → (form : FirstForm) → IsForm form → all ≡ form_text form → (read_rose → ⊥) → (write_rose → ⊥)
-            → (outcome.fault ≡ None) ⊎ (outcome.fault ≡ Some Memory)
-        go Usage e end all told form limits spelled no_read no_write = absurd end
-        go (Param p) e end all told form limits spelled no_read no_write = absurd (lacks-form all told end.0.1 form limits spelled)
-        go ReadFault e end all told form limits spelled no_read no_write = absurd (no_read end.0)
-        go WriteFault e end all told form limits spelled no_read no_write = absurd (no_write end.0)
-        go Memory e end all told form limits spelled no_read no_write = inr e
+  pub ends-write_cause : (fault : Option Fault) (handled : ℕ) (outcome : Outcome) → outcome.fault ≡ fault
+      → CommandEnds words fault handled old new ended before after read_rose write_rose unwritten → outcome.fault ≡ Some WriteFault → write_rose
+  ends-write_cause fault handled outcome is ends failed =
+      (subst (λ f. CommandEnds words f handled old new ended before after read_rose write_rose unwritten) (sym is ∙ failed) ends).0
+
+  pub ends-not-usage : (fault : Option Fault) (handled : ℕ) (outcome : Outcome) → outcome.fault ≡ fault
+      → CommandEnds words fault handled old new ended before after read_rose write_rose unwritten → outcome.fault ≡ Some Usage → ⊥
+  ends-not-usage fault handled outcome is ends usage =
+      subst (λ f. CommandEnds words f handled old new ended before after read_rose write_rose unwritten) (sym is ∙ usage) ends
+
+  -- an end without a fault where the answer to all has none
+  completed : (fault : Option Fault) (handled : ℕ) (outcome : Outcome) (all : List ℕ) → outcome.fault ≡ fault
+      → CommandEnds words fault handled old new ended before after read_rose write_rose unwritten → old ≡ Some all
+      → ((a : Answer) → IsAnswer words all a → a.fault ≡ None) → (read_rose → ⊥) → (write_rose → ⊥)
+      → (outcome.fault ≡ None) ⊎ (outcome.fault ≡ Some Memory)
+  completed fault handled outcome all is ends told well no_read no_write = go fault is ends
+    where
+      of : (f : Option Fault) → outcome.fault ≡ f → Decided words f handled old new ended before after → (outcome.fault ≡ None) ⊎ (outcome.fault ≡ Some Memory)
+      of f e d = inl (e ∙ d.same_fault ∙ well d.answer (front_IsAnswer words all d.bytes d.answer (read_are old new ended d.bytes all told d.read) d.is))
+
+      go : (f : Option Fault) → outcome.fault ≡ f → CommandEnds words f handled old new ended before after read_rose write_rose unwritten
+          → (outcome.fault ≡ None) ⊎ (outcome.fault ≡ Some Memory)
+      go None e end = inl e
+      go (Some Usage) e end = absurd end
+      go (Some (Syntax f)) e end = of (Some (Syntax f)) e end.0
+      go (Some (Param f)) e end = of (Some (Param f)) e end.0
+      go (Some (Unbuilt group key)) e end = of (Some (Unbuilt group key)) e end.0
+      go (Some (LevelLimit phase place)) e end = of (Some (LevelLimit phase place)) e end
+      go (Some (BlockLimit phase count limit)) e end = of (Some (BlockLimit phase count limit)) e end
+      go (Some ReadFault) e end = absurd (no_read end.0)
+      go (Some WriteFault) e end = absurd (no_write end.0)
+      go (Some Memory) e end = inr e
+
+  pub ends-complete : (fault : Option Fault) (handled : ℕ) (outcome : Outcome) → outcome.fault ≡ fault
+      → CommandEnds words fault handled old new ended before after read_rose write_rose unwritten
+      → IfSome old (λ bytes. (p : Parameters) → IsSolo words → HasParameters bytes p → unbuilt p ≡ None → MeetsNoLimit p → (read_rose → ⊥) → (write_rose → ⊥)
+      → (outcome.fault ≡ None) ⊎ (outcome.fault ≡ Some Memory))
+  ends-complete fault handled outcome is ends =
+      IfSome-from _ old (λ all told p solo has none free no_read no_write.
+      completed fault handled outcome all is ends told (λ a answer. completes words all a p solo has none free answer) no_read no_write)
+
+  pub ends-complete_check : (fault : Option Fault) (handled : ℕ) (outcome : Outcome) → outcome.fault ≡ fault
+      → CommandEnds words fault handled old new ended before after read_rose write_rose unwritten
+      → IfSome old (λ bytes. (p : Parameters) → IsCheck words → HasParameters bytes p → (read_rose → ⊥) → (write_rose → ⊥)
+      → (outcome.fault ≡ None) ⊎ (outcome.fault ≡ Some Memory))
+  ends-complete_check fault handled outcome is ends =
+      IfSome-from _ old (λ all told p check has no_read no_write.
+      completed fault handled outcome all is ends told (λ a answer. completes_check words all a p check has answer) no_read no_write)

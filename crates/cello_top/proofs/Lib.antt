@@ -1,8 +1,15 @@
-pub mod OneWord
-pub mod Limits
-pub mod Pieces
-pub mod Phases
-pub mod Ends
-pub mod PhaseMeshes
-pub mod OneAnswer
-pub mod AnswerExists
+mod Limits
+mod OneWord
+mod Greater
+mod SyntaxLines
+mod LevelLimits
+mod TextEnds
+mod RunEnds
+mod Pieces
+mod Phases
+mod Texts
+mod PhaseMeshes
+mod OneAnswer
+mod Ends
+mod CommandEnds
+mod AnswerExists

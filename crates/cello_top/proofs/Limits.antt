@@ -1,5 +1,5 @@
 -- Limits of places as numbers.
-use Rattle.std.proofs.Common.{ℕ, ◌*◌, ◌^◌, ◌≤◌, ◌<◌, arith}
+use Rattle.std.proofs.Common.{ℕ, ◌^◌, ◌≤◌, ◌<◌, arith}
 use Rattle.std.proofs.Math.Pow.{pow_mono}
 use Rattle.block_index.specs.Places.{Cube, IsPlace}
 

@@ -1,14 +1,13 @@
 -- The pieces of a report, one after another.
 use Rattle.std.proofs.Common.{◌≡◌, ℕ, ◌+◌, ◌<◌, zero, suc, List, [], ◌∷◌, ◌++◌, length, take, drop, get_or, Option, Result, Ok, Err, refl, sym, ap, subst, ◌∙◌, add-one, append_assoc, append-nil, arith}
 use Rattle.std.specs.Prelude.{IsErrAnd}
-use Rattle.std.specs.List.{flat_map}
 use Rattle.std.specs.Io.KnownBytes.{append_known}
 use Rattle.std.proofs.lemmas.List.Concat.{flat_map-append}
 use Rattle.cello_io.specs.Writes.{GrewByPart, Wrote}
 use Rattle.cello_io.proofs.WriteLemmas.{grew_less, grew_within, written_then, wrote_then}
 use Rattle.block_index.specs.Places.{Cube}
 use Rattle.mesh_output.specs.Lines.{header_line, phase_line, cycle_line, mesh_text, end_line}
-use Rattle.cello_top.specs.Answers.{phase_lines, bytes_of, actions}
+use Rattle.cello_top.specs.Answers.{phase_lines, opening_lines, closing_lines, bytes_of}
 
 -- a result that is an error comes where a part was written
 pub Wrote-from_err : {T E : Type 0} (Q : E → Type 0) (old new : Option (List ℕ)) (bytes : List ℕ) (r : Result T E) → IsErrAnd r Q → GrewByPart old new bytes → Wrote old new r bytes
@@ -67,32 +66,40 @@ phase_lines-more old mid new xs i phase x below is number first second =
     ∙ ap (append_known old) (sym (phase_lines_taken 1 xs i x below is))
     ∙ ap (λ (n : ℕ). append_known old (bytes_of (phase_lines 1 (take n xs)))) (sym (add-one i))
 
-pub bytes_of-actions : (mesh : List Cube) (leaves : List ℕ)
-    → bytes_of (actions mesh leaves) ≡ header_line ++ (bytes_of (phase_lines 1 leaves) ++ (cycle_line 0 (length mesh) ++ (mesh_text mesh ++ end_line)))
-bytes_of-actions mesh leaves =
-    let close = cycle_line 0 (length mesh) in
-    let list = mesh_text mesh ++ end_line in
-    let lines = phase_lines 1 leaves in
-    ap (λ (l : List ℕ). header_line ++ l)
-    (flat_map-append (λ (piece : List ℕ). piece) lines (close ∷ list ∷ [])
-    ∙ ap (λ (l : List ℕ). bytes_of lines ++ (close ++ l)) (append-nil list))
+-- the first line, and then those of the phases
+pub opening-less : (old new : Option (List ℕ)) (leaves : List ℕ) → GrewByPart old new header_line → GrewByPart old new (bytes_of (opening_lines leaves))
+opening-less old new leaves some = grew_less old new header_line (bytes_of (phase_lines 1 leaves)) some
 
--- the first line, and then the rest
-pub report-less : (old new : Option (List ℕ)) (mesh : List Cube) (leaves : List ℕ) → GrewByPart old new header_line → GrewByPart old new (bytes_of (actions mesh leaves))
-report-less old new mesh leaves some =
-    subst (GrewByPart old new) (sym (bytes_of-actions mesh leaves)) (grew_less old new header_line _ some)
+pub opening-then : {T E : Type 0} (old mid new : Option (List ℕ)) (leaves : List ℕ) (r : Result T E) → mid ≡ append_known old header_line
+    → Wrote mid new r (bytes_of (phase_lines 1 leaves)) → Wrote old new r (bytes_of (opening_lines leaves))
+opening-then old mid new leaves r first second = wrote_then old mid new header_line (bytes_of (phase_lines 1 leaves)) r first second
 
-pub report-then : {T E : Type 0} (old mid new : Option (List ℕ)) (mesh : List Cube) (leaves : List ℕ) (r : Result T E) → mid ≡ append_known old header_line
-    → Wrote mid new r (bytes_of (phase_lines 1 leaves) ++ (cycle_line 0 (length mesh) ++ (mesh_text mesh ++ end_line))) → Wrote old new r (bytes_of (actions mesh leaves))
-report-then old mid new mesh leaves r first second =
-    subst (Wrote old new r) (sym (bytes_of-actions mesh leaves)) (wrote_then old mid new header_line _ r first second)
+closing : (mesh : List Cube) → cycle_line 0 (length mesh) ++ (mesh_text mesh ++ end_line) ≡ bytes_of (closing_lines mesh)
+closing mesh = ap (λ (l : List ℕ). cycle_line 0 (length mesh) ++ l) (sym (append-nil (mesh_text mesh ++ end_line)))
 
 -- the line of the cycle, and then the list
-pub close-less : (old new : Option (List ℕ)) (n : ℕ) (mesh : List Cube) → n ≡ length mesh → GrewByPart old new (cycle_line 0 n)
-    → GrewByPart old new (cycle_line 0 (length mesh) ++ (mesh_text mesh ++ end_line))
-close-less old new n mesh is some = grew_less old new (cycle_line 0 (length mesh)) _ (subst (λ m. GrewByPart old new (cycle_line 0 m)) is some)
+pub closing-less : (old new : Option (List ℕ)) (n : ℕ) (mesh : List Cube) → n ≡ length mesh → GrewByPart old new (cycle_line 0 n)
+    → GrewByPart old new (bytes_of (closing_lines mesh))
+closing-less old new n mesh is some =
+    subst (GrewByPart old new) (closing mesh)
+    (grew_less old new (cycle_line 0 (length mesh)) (mesh_text mesh ++ end_line) (subst (λ m. GrewByPart old new (cycle_line 0 m)) is some))
 
-pub close-then : {T E : Type 0} (old mid new : Option (List ℕ)) (n : ℕ) (mesh : List Cube) (r : Result T E) → n ≡ length mesh → mid ≡ append_known old (cycle_line 0 n)
-    → Wrote mid new r (mesh_text mesh ++ end_line) → Wrote old new r (cycle_line 0 (length mesh) ++ (mesh_text mesh ++ end_line))
-close-then old mid new n mesh r is first second =
-    wrote_then old mid new (cycle_line 0 (length mesh)) _ r (first ∙ ap (λ m. append_known old (cycle_line 0 m)) is) second
+pub closing-then : {T E : Type 0} (old mid new : Option (List ℕ)) (n : ℕ) (mesh : List Cube) (r : Result T E) → n ≡ length mesh → mid ≡ append_known old (cycle_line 0 n)
+    → Wrote mid new r (mesh_text mesh ++ end_line) → Wrote old new r (bytes_of (closing_lines mesh))
+closing-then old mid new n mesh r is first second =
+    subst (Wrote old new r) (closing mesh)
+    (wrote_then old mid new (cycle_line 0 (length mesh)) (mesh_text mesh ++ end_line) r (first ∙ ap (λ m. append_known old (cycle_line 0 m)) is) second)
+
+-- the first lines, and then the last
+split : (leaves : List ℕ) (mesh : List Cube) → bytes_of (opening_lines leaves) ++ bytes_of (closing_lines mesh) ≡ bytes_of (opening_lines leaves ++ closing_lines mesh)
+split leaves mesh = sym (flat_map-append (λ (piece : List ℕ). piece) (opening_lines leaves) (closing_lines mesh))
+
+pub report-less : (old new : Option (List ℕ)) (leaves : List ℕ) (mesh : List Cube) → GrewByPart old new (bytes_of (opening_lines leaves))
+    → GrewByPart old new (bytes_of (opening_lines leaves ++ closing_lines mesh))
+report-less old new leaves mesh some =
+    subst (GrewByPart old new) (split leaves mesh) (grew_less old new (bytes_of (opening_lines leaves)) (bytes_of (closing_lines mesh)) some)
+
+pub report-then : {T E : Type 0} (old mid new : Option (List ℕ)) (leaves : List ℕ) (mesh : List Cube) (r : Result T E) → mid ≡ append_known old (bytes_of (opening_lines leaves))
+    → Wrote mid new r (bytes_of (closing_lines mesh)) → Wrote old new r (bytes_of (opening_lines leaves ++ closing_lines mesh))
+report-then old mid new leaves mesh r first second =
+    subst (Wrote old new r) (split leaves mesh) (wrote_then old mid new (bytes_of (opening_lines leaves)) (bytes_of (closing_lines mesh)) r first second)

@@ -1,10 +1,24 @@
 -- The line of each fault, and its status.
-use Rattle.std.specs.Prelude.{ℕ, List, [], ◌∷◌, ◌++◌, codes, Option, Some, None}
+use Rattle.std.specs.Prelude.{ℕ, List, [], ◌∷◌, ◌++◌, codes, decimal, Option, Some, None}
+use Rattle.block_index.specs.Places.{Cube}
+use Rattle.params_syntax.specs.declared.fault.SyntaxFault.{SyntaxFault}
+use Rattle.params_syntax.specs.declared.fault.SyntaxKind.{SyntaxKind}
+use Rattle.params_syntax.specs.declared.fault.SyntaxKind.TheVariants as syntax
+use Rattle.params_check.specs.declared.fault.ParamFault.{ParamFault}
+use Rattle.params_check.specs.declared.fault.ParamKind.{ParamKind}
+use Rattle.params_check.specs.declared.fault.ParamKind.TheVariants.{Missing, Unknown, Repeated, WrongForm, OutOfRange, Size, Courant, TotalTooLarge}
 use Rattle.cello_top.specs.declared.fault.Fault.{Fault}
-use Rattle.cello_top.specs.declared.fault.Fault.TheVariants.{Usage, Param, ReadFault, WriteFault, Memory}
-use Rattle.cello_top.specs.declared.fault.ParamFault.{ParamFault}
-use Rattle.cello_top.specs.declared.fault.ParamKind.{ParamKind}
-use Rattle.cello_top.specs.declared.fault.ParamKind.TheVariants.{Missing, Unknown, Repeated, WrongForm, OutOfRange, Size, Courant, TotalTooLarge}
+use Rattle.cello_top.specs.declared.fault.Fault.TheVariants.{Usage, Syntax, Param, Unbuilt, LevelLimit, BlockLimit, ReadFault, WriteFault, Memory}
+
+abbrev pub syntax_name : SyntaxKind → List ℕ
+syntax_name syntax.Long = codes "Long"
+syntax_name syntax.Byte = codes "Byte"
+syntax_name syntax.Name = codes "Name"
+syntax_name syntax.Number = codes "Number"
+syntax_name syntax.Word = codes "Word"
+syntax_name syntax.Length = codes "Length"
+syntax_name syntax.Unexpected = codes "Unexpected"
+syntax_name syntax.End = codes "End"
 
 abbrev pub kind_name : ParamKind → List ℕ
 kind_name Missing = codes "Missing"
@@ -29,6 +43,23 @@ param_line fault =
     codes "cello: parameter: " ++ kind_name fault.kind ++ codes " at " ++ shown_name fault.group ++ codes " "
     ++ shown_name fault.sub ++ codes " " ++ shown_name fault.key ++ codes "\n"
 
+unfoldable pub syntax_line : SyntaxFault → List ℕ
+syntax_line fault = codes "cello: syntax: " ++ syntax_name fault.kind ++ codes " at " ++ decimal fault.offset ++ codes "\n"
+
+unfoldable pub unbuilt_line : List ℕ → List ℕ → List ℕ
+unbuilt_line group key = codes "cello: not built: " ++ shown_name group ++ codes " " ++ shown_name key ++ codes "\n"
+
+-- a place as its level and coordinates
+abbrev pub shown_place : Cube → List ℕ
+shown_place c = decimal c.level ++ codes " " ++ decimal c.x ++ codes " " ++ decimal c.y ++ codes " " ++ decimal c.z
+
+unfoldable pub level_limit_line : ℕ → Cube → List ℕ
+level_limit_line phase place = codes "cello: level limit in phase " ++ decimal phase ++ codes " at " ++ shown_place place ++ codes "\n"
+
+unfoldable pub block_limit_line : ℕ → ℕ → ℕ → List ℕ
+block_limit_line phase count limit =
+    codes "cello: block limit in phase " ++ decimal phase ++ codes ": " ++ decimal count ++ codes " over " ++ decimal limit ++ codes "\n"
+
 unfoldable pub read_line : List ℕ
 read_line = codes "cello: read fault\n"
 
@@ -40,7 +71,11 @@ memory_line = codes "cello: out of memory\n"
 
 abbrev pub fault_line : Fault → List ℕ
 fault_line Usage = usage_line
+fault_line (Syntax fault) = syntax_line fault
 fault_line (Param fault) = param_line fault
+fault_line (Unbuilt group key) = unbuilt_line group key
+fault_line (LevelLimit phase place) = level_limit_line phase place
+fault_line (BlockLimit phase count limit) = block_limit_line phase count limit
 fault_line ReadFault = read_line
 fault_line WriteFault = write_line
 fault_line Memory = memory_line
@@ -49,7 +84,11 @@ fault_line Memory = memory_line
 abbrev pub status_of : Option Fault → ℕ
 status_of None = 0
 status_of (Some Usage) = 1
+status_of (Some (Syntax fault)) = 2
 status_of (Some (Param fault)) = 2
+status_of (Some (Unbuilt group key)) = 2
+status_of (Some (LevelLimit phase place)) = 3
+status_of (Some (BlockLimit phase count limit)) = 3
 status_of (Some ReadFault) = 4
 status_of (Some WriteFault) = 4
 status_of (Some Memory) = 5

@@ -1,7 +1,9 @@
 pub mod Words
 pub mod FaultLines
-pub mod BoxWish
+pub mod Wishes
+pub mod Texts
 pub mod Runs
 pub mod Answers
 pub mod Solo
 pub mod Steps
+pub mod Phases

@@ -1,10 +1,9 @@
--- The defined run of a text of the first form: adapt phases one after another, from the mesh of the roots on.
-use Rattle.std.specs.Prelude.{◌≡◌, ℕ, zero, suc, ◌+◌, Bool, true, false, List, [], ◌∷◌, ◌++◌, map, length}
+-- The defined run of parameters: adapt phases one after another, from the mesh of the roots on, to the last or to a
+-- limit.
+use Rattle.std.specs.Prelude.{◌≡◌, ℕ, zero, suc, ◌+◌, ◌<◌, ◌≤◌, true, List, [], ◌∷◌, ◌++◌, length, Option, Some, None, slice_get}
 use Rattle.block_index.specs.Places.{Cube, Grid}
 use Rattle.block_index.specs.declared.wish.Wish.{Wish}
-use Rattle.first_form.specs.declared.form.AxisKind.{AxisKind}
-use Rattle.first_form.specs.declared.form.AxisKind.TheVariants.{Periodic, Outflow, Closed}
-use Rattle.first_form.specs.declared.form.FirstForm.{FirstForm}
+use Rattle.block_index.specs.declared.wish.Wish.TheVariants.{Refine}
 use Rattle.leaf_set.specs.LevelRules.{IsLeast}
 use Rattle.leaf_set.specs.NextMesh.{next_mesh}
 use Rattle.leaf_set.specs.RootMesh.{root_mesh}
@@ -13,28 +12,10 @@ use Rattle.adapt_core.specs.declared.adapt_msg.AdaptMsg.{AdaptMsg}
 use Rattle.adapt_core.specs.Cells.{LeafState, AdaptProblem}
 use Rattle.adapt_core.specs.Problem.{mesh_of, wishes_of, AdaptBegins}
 use Rattle.adapt_core.specs.React.{adapt_react, adapt_start}
-use Rattle.cello_top.specs.BoxWish.{wish_of}
-
-abbrev pub wraps : AxisKind → Bool
-wraps Periodic = true
-wraps Outflow = false
-wraps Closed = false
-
--- the domain of a text
-abbrev pub form_grid : FirstForm → Grid
-form_grid f = record {
-  trees_x = f.mesh.array.x;
-  trees_y = f.mesh.array.y;
-  trees_z = f.mesh.array.z;
-  wraps_x = wraps f.mesh.boundary.x;
-  wraps_y = wraps f.mesh.boundary.y;
-  wraps_z = wraps f.mesh.boundary.z;
-  finest = f.mesh.max_level;
-}
-
--- the wish of each leaf of a mesh
-abbrev pub form_wishes : FirstForm → List Cube → List Wish
-form_wishes f mesh = map (wish_of f.mesh.block f.region) mesh
+use Rattle.params_check.specs.Parameters.{Parameters}
+use Rattle.cello_top.specs.declared.fault.Fault.{Fault}
+use Rattle.cello_top.specs.declared.fault.Fault.TheVariants.{LevelLimit, BlockLimit}
+use Rattle.cello_top.specs.Wishes.{wish_of, wishes_in}
 
 -- How many messages the adapt phase of a mesh and these wishes handles where they are delivered first in, first out,
 -- its start messages in the order of the leaves.
@@ -48,12 +29,33 @@ pub record IsPlainCount (grid : Grid) (mesh : List Cube) (wishes : List Wish) (c
   pub same_wishes : wishes_of problem ≡ wishes
   pub runs : RunsPlainly (adapt_react problem) (start_state adapt_start cells) count quiet
 
--- One adapt phase leads from a mesh to the next, by the least levels that meet the level rules.
-pub record Adapts (f : FirstForm) (before after : List Cube) (count : ℕ) : Type 0 where
+-- the leaf at `i` is of the finest level, and wishes to refine
+pub record WishesTooFine (p : Parameters) (phase : ℕ) (mesh : List Cube) (i : ℕ) (place : Cube) : Type 0 where
+  pub leaf : slice_get mesh i ≡ Some place
+  pub finest : place.level ≡ p.grid.finest
+  pub refine : wish_of p phase place ≡ Refine
+
+-- where the parameters are strict, no leaf wishes for a level above the finest
+abbrev pub KeepsLevelLimit : Parameters → ℕ → List Cube → Type 0
+KeepsLevelLimit p phase mesh = p.strict ≡ true → (i : ℕ) (place : Cube) → WishesTooFine p phase mesh i place → ⊥
+
+-- One adapt phase leads from a mesh to the next, by the least levels that meet the level rules, within both limits.
+pub record Adapts (p : Parameters) (phase : ℕ) (before after : List Cube) (count : ℕ) : Type 0 where
+  pub level_limit : KeepsLevelLimit p phase before
   pub levels : List ℕ
-  pub least : IsLeast (form_grid f) before (form_wishes f before) levels
+  pub least : IsLeast p.grid before (wishes_in p phase before) levels
   pub next : after ≡ next_mesh before levels
-  pub plain : IsPlainCount (form_grid f) before (form_wishes f before) count
+  pub block_limit : length after ≤ p.max_blocks
+  pub plain : IsPlainCount p.grid before (wishes_in p phase before) count
+
+-- An adapt phase ends the run by a limit: with strict parameters the first leaf that wishes for a level above the
+-- finest, else a next mesh of more leaves than there may be blocks.
+pub data PassesLimit (p : Parameters) (phase : ℕ) (mesh : List Cube) (fault : Fault) : Type 0 where
+  of_level : (i : ℕ) (place : Cube) → p.strict ≡ true → WishesTooFine p phase mesh i place →
+      ((j : ℕ) (c : Cube) → j < i → WishesTooFine p phase mesh j c → ⊥) → fault ≡ LevelLimit phase place → PassesLimit p phase mesh fault
+  of_blocks : (levels : List ℕ) → KeepsLevelLimit p phase mesh → IsLeast p.grid mesh (wishes_in p phase mesh) levels →
+      p.max_blocks < length (next_mesh mesh levels) → fault ≡ BlockLimit phase (length (next_mesh mesh levels)) p.max_blocks →
+      PassesLimit p phase mesh fault
 
 -- Where a run stands: its mesh, the number of leaves after each phase so far, and how many messages were handled.
 pub record RunState : Type 0 where
@@ -65,17 +67,27 @@ abbrev pub run_state : List Cube → List ℕ → ℕ → RunState
 run_state mesh leaves handled = record { mesh = mesh; leaves = leaves; handled = handled }
 
 -- the run before its first phase
-abbrev pub run_start : FirstForm → RunState
-run_start f = record { mesh = root_mesh (form_grid f); leaves = []; handled = 0 }
+abbrev pub run_start : Parameters → RunState
+run_start p = record { mesh = root_mesh p.grid; leaves = []; handled = 0 }
 
--- one phase more
-pub record RunSteps (f : FirstForm) (s t : RunState) : Type 0 where
+-- one phase more, which has this number
+pub record RunSteps (p : Parameters) (phase : ℕ) (s t : RunState) : Type 0 where
   pub count : ℕ
-  pub adapts : Adapts f s.mesh t.mesh count
+  pub adapts : Adapts p phase s.mesh t.mesh count
   pub leaves : t.leaves ≡ s.leaves ++ length t.mesh ∷ []
   pub handled : t.handled ≡ s.handled + count
 
--- the run of this many phases
-abbrev pub Runs : FirstForm → ℕ → RunState → Type 0
-Runs f zero t = t ≡ run_start f
-Runs f (suc phases) t = (s : RunState) × Runs f phases s × RunSteps f s t
+-- the first phases of the run, which are this many and are numbered from 1
+abbrev pub Runs : Parameters → ℕ → RunState → Type 0
+Runs p zero t = t ≡ run_start p
+Runs p (suc phases) t = (s : RunState) × Runs p phases s × RunSteps p (suc phases) s t
+
+-- The run ends, in this state: after its last phase, or by a limit that the next phase passes.
+pub data RunEnds (p : Parameters) (s : RunState) (limit : Option Fault) : Type 0 where
+  after_all : Runs p p.rounds s → limit ≡ None → RunEnds p s limit
+  at_limit : (phases : ℕ) (fault : Fault) → phases < p.rounds → Runs p phases s → PassesLimit p (suc phases) s.mesh fault → limit ≡ Some fault →
+      RunEnds p s limit
+
+-- no phase of the run passes a limit
+abbrev pub MeetsNoLimit : Parameters → Type 0
+MeetsNoLimit p = (phases : ℕ) (s : RunState) (fault : Fault) → phases < p.rounds → Runs p phases s → PassesLimit p (suc phases) s.mesh fault → ⊥

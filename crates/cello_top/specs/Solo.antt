@@ -1,16 +1,12 @@
 -- What a call of `solo` leaves behind, by how it ended.
 use Rattle.std.specs.Prelude.{◌≡◌, ℕ, ◌≤◌, Bool, List, length, take, Option, Some, None, IfSome}
 use Rattle.std.specs.Io.KnownBytes.{prepend_known, append_known}
-use Rattle.cello_io.specs.Counts.{Rose}
 use Rattle.cello_io.specs.Reads.{StoppedAt}
 use Rattle.cello_io.specs.Writes.{GrewByPart}
-use Rattle.first_form.specs.declared.form.FirstForm.{FirstForm}
-use Rattle.first_form.specs.Forms.{IsForm, form_text}
 use Rattle.cello_top.specs.declared.fault.Fault.{Fault}
-use Rattle.cello_top.specs.declared.fault.Fault.TheVariants.{Usage, Param, ReadFault, WriteFault, Memory}
+use Rattle.cello_top.specs.declared.fault.Fault.TheVariants.{Usage, Syntax, Param, Unbuilt, LevelLimit, BlockLimit, ReadFault, WriteFault, Memory}
 use Rattle.cello_top.specs.declared.outcome.Outcome.{Outcome}
-use Rattle.cello_top.specs.Answers.{Answer, IsAnswer, bytes_of, actions, wrong_form}
-use Rattle.cello_top.specs.Runs.{RunState, Runs}
+use Rattle.cello_top.specs.Answers.{Answer, IsAnswer, bytes_of}
 
 -- one byte more than a parameter text may have
 abbrev pub read_limit : ℕ
@@ -27,7 +23,11 @@ pub record ReadOut (old new : Option (List ℕ)) (has_ended : Bool) (bytes : Lis
 abbrev pub IsDecided : Option Fault → Type 0
 IsDecided None = Unit {0}
 IsDecided (Some Usage) = Unit {0}
+IsDecided (Some (Syntax fault)) = Unit {0}
 IsDecided (Some (Param fault)) = Unit {0}
+IsDecided (Some (Unbuilt group key)) = Unit {0}
+IsDecided (Some (LevelLimit phase place)) = Unit {0}
+IsDecided (Some (BlockLimit phase count limit)) = Unit {0}
 IsDecided (Some ReadFault) = ⊥
 IsDecided (Some WriteFault) = ⊥
 IsDecided (Some Memory) = ⊥
@@ -36,7 +36,11 @@ IsDecided (Some Memory) = ⊥
 abbrev pub SawText : Option Fault → Type 0
 SawText None = Unit {0}
 SawText (Some Usage) = ⊥
+SawText (Some (Syntax fault)) = Unit {0}
 SawText (Some (Param fault)) = Unit {0}
+SawText (Some (Unbuilt group key)) = Unit {0}
+SawText (Some (LevelLimit phase place)) = Unit {0}
+SawText (Some (BlockLimit phase count limit)) = Unit {0}
 SawText (Some ReadFault) = ⊥
 SawText (Some WriteFault) = Unit {0}
 SawText (Some Memory) = ⊥
@@ -45,7 +49,11 @@ SawText (Some Memory) = ⊥
 abbrev pub CameToWrite : Option Fault → Type 0
 CameToWrite None = Unit {0}
 CameToWrite (Some Usage) = ⊥
+CameToWrite (Some (Syntax fault)) = ⊥
 CameToWrite (Some (Param fault)) = ⊥
+CameToWrite (Some (Unbuilt group key)) = ⊥
+CameToWrite (Some (LevelLimit phase place)) = Unit {0}
+CameToWrite (Some (BlockLimit phase count limit)) = Unit {0}
 CameToWrite (Some ReadFault) = ⊥
 CameToWrite (Some WriteFault) = Unit {0}
 CameToWrite (Some Memory) = ⊥

@@ -34,7 +34,8 @@ impl Outcome {
     {
         let status = match fault {
             Fault::Usage => 1,
-            Fault::Param(_) => 2,
+            Fault::Syntax(_) | Fault::Param(_) | Fault::Unbuilt { .. } => 2,
+            Fault::LevelLimit { .. } | Fault::BlockLimit { .. } => 3,
             Fault::ReadFault | Fault::WriteFault => 4,
             Fault::Memory => 5,
         };

@@ -3,38 +3,54 @@ ghost use Rattle.std.specs.Prelude.{◌≡◌, ◌≤◌, ◌++◌, length};
 ghost use Rattle.cello_io.specs.Counts.{HasCause};
 ghost use Rattle.cello_io.specs.Writes.{Wrote};
 ghost use Rattle.mesh_output.specs.Lines.{cycle_line, mesh_text, end_line};
-ghost use Rattle.cello_top.specs.Answers.{phase_lines, bytes_of, actions};
+ghost use Rattle.cello_top.specs.Answers.{phase_lines, opening_lines, closing_lines, bytes_of, report};
+ghost use Rattle.cello_top.specs.Runs.{run_state};
 
+use crate::run::Run;
 use cello_io::{Failed, Sink};
 use leaf_set::LeafSet;
 use mesh_output::{write_cycle_line, write_end, write_header, write_mesh, write_phase_line};
 
-/// Writes the report of a run that ended with this mesh, and had these numbers of leaves after its phases.
-pub fn write_report<K: Sink>(leaves: &[u32], set: &LeafSet, sink: &mut K) -> Result<(), Failed>
-    requires { length leaves.now ≤ 12 }
-    ensures wrote { Wrote (K.written sink.old) (K.written sink.new) result (bytes_of (actions set.now.places leaves.now)) }
+/// Writes the report of a run: up to the line of its last phase where a limit ended it.
+pub fn write_report<K: Sink>(run: &Run, sink: &mut K) -> Result<(), Failed>
+    requires phases { length run.now.leaves.items ≤ 12 }
+    ensures wrote { Wrote (K.written sink.old) (K.written sink.new) result
+        (bytes_of (report (run_state run.now.set.places run.now.leaves.items run.now.handled) run.now.limit)) }
+    ensures same_rest { K.rest sink.new ≡ K.rest sink.old }
+    ensures cause { HasCause (K.write_faults sink.old) (K.write_faults sink.new) result }
+{
+    match run.limit {
+        Some(_) => write_opening(&run.leaves, sink),
+        None => write_all_lines(&run.leaves, &run.set, sink),
+    }
+}
+
+/// Writes the full report.
+fn write_all_lines<K: Sink>(leaves: &[u32], set: &LeafSet, sink: &mut K) -> Result<(), Failed>
+    requires phases { length leaves.now ≤ 12 }
+    ensures wrote { Wrote (K.written sink.old) (K.written sink.new) result
+        (bytes_of (opening_lines leaves.now ++ closing_lines set.now.places)) }
+    ensures same_rest { K.rest sink.new ≡ K.rest sink.old }
+    ensures cause { HasCause (K.write_faults sink.old) (K.write_faults sink.new) result }
+{
+    write_opening(leaves, sink)?;
+    write_closing(set, sink)
+}
+
+/// Writes the first line and those of the phases.
+fn write_opening<K: Sink>(leaves: &[u32], sink: &mut K) -> Result<(), Failed>
+    requires phases { length leaves.now ≤ 12 }
+    ensures wrote { Wrote (K.written sink.old) (K.written sink.new) result (bytes_of (opening_lines leaves.now)) }
     ensures same_rest { K.rest sink.new ≡ K.rest sink.old }
     ensures cause { HasCause (K.write_faults sink.old) (K.write_faults sink.new) result }
 {
     write_header(sink)?;
-    write_body(leaves, set, sink)
-}
-
-/// Writes what stands behind the first line.
-fn write_body<K: Sink>(leaves: &[u32], set: &LeafSet, sink: &mut K) -> Result<(), Failed>
-    requires { length leaves.now ≤ 12 }
-    ensures wrote { Wrote (K.written sink.old) (K.written sink.new) result
-        (bytes_of (phase_lines 1 leaves.now) ++ (cycle_line 0 (length set.now.places) ++ (mesh_text set.now.places ++ end_line))) }
-    ensures same_rest { K.rest sink.new ≡ K.rest sink.old }
-    ensures cause { HasCause (K.write_faults sink.old) (K.write_faults sink.new) result }
-{
-    write_phases(leaves, sink)?;
-    write_close(set, sink)
+    write_phases(leaves, sink)
 }
 
 /// Writes the lines of the phases.
 fn write_phases<K: Sink>(leaves: &[u32], sink: &mut K) -> Result<(), Failed>
-    requires { length leaves.now ≤ 12 }
+    requires phases { length leaves.now ≤ 12 }
     ensures wrote { Wrote (K.written sink.old) (K.written sink.new) result (bytes_of (phase_lines 1 leaves.now)) }
     ensures same_rest { K.rest sink.new ≡ K.rest sink.old }
     ensures cause { HasCause (K.write_faults sink.old) (K.write_faults sink.new) result }
@@ -48,9 +64,8 @@ fn write_phases<K: Sink>(leaves: &[u32], sink: &mut K) -> Result<(), Failed>
 }
 
 /// Writes the line of cycle 0 and the mesh.
-fn write_close<K: Sink>(set: &LeafSet, sink: &mut K) -> Result<(), Failed>
-    ensures wrote { Wrote (K.written sink.old) (K.written sink.new) result
-        (cycle_line 0 (length set.now.places) ++ (mesh_text set.now.places ++ end_line)) }
+fn write_closing<K: Sink>(set: &LeafSet, sink: &mut K) -> Result<(), Failed>
+    ensures wrote { Wrote (K.written sink.old) (K.written sink.new) result (bytes_of (closing_lines set.now.places)) }
     ensures same_rest { K.rest sink.new ≡ K.rest sink.old }
     ensures cause { HasCause (K.write_faults sink.old) (K.write_faults sink.new) result }
 {

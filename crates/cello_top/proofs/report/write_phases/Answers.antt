@@ -1,4 +1,4 @@
-use Rattle.std.proofs.Common.{◌≡◌, ◌≤◌, arith, ◌∙◌, get_or, refl}
+use Rattle.std.proofs.Common.{arith, ◌∙◌, get_or, refl}
 use Rattle.cello_top.proofs.Pieces.{Wrote-from_err, phase_lines-within, phase_lines-more}
 use Rattle.cello_top.proofs.report.write_phases.Goals as goal
 
