@@ -1,1 +1,3 @@
 mod Padding
+pub mod PartSums
+pub mod Sums

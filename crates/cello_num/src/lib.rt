@@ -1,14 +1,16 @@
-//! What every crate of cello shares: the error for want of memory, and short names.
+//! What every crate of cello shares: the error for want of memory, short names, and the eight parts of an amount.
 //!
-//! A name holds at most 32 bytes, and contracts see it as the list of them.
-//! Neither takes memory.
+//! A name holds at most 32 bytes, and contracts see it as the list of them. The parts of an amount add up to it.
+//! None of these takes memory. The definitions stand in `specs/`, with the sum of a function's first values.
 #![tactic(auto)]
 
 mod memory;
 mod name;
+mod parts;
 
 pub use memory::Memory;
 pub use name::Name;
+pub use parts::{part, parts_add_up};
 
 #[cfg(test)]
 mod tests {
@@ -24,6 +26,17 @@ mod tests {
         assert_eq!(rt; other.bytes(), longest.as_slice());
         assert!(rt; name != other);
         assert_eq!(rt; Name::of(&[b'n'; 33]), None);
+        Ok(())
+    }
+
+    #[test]
+    fn an_amount_has_eight_parts(rt: HostRuntime) -> Result<(), Fail> {
+        for k in 0..8u8 {
+            let of_eleven = if k < 3 { 2 } else { 1 };
+            assert_eq!(rt; part(11, k), of_eleven);
+            assert_eq!(rt; part(0, k), 0);
+            assert_eq!(rt; part(1 << 40, k), 137_438_953_472);
+        }
         Ok(())
     }
 }

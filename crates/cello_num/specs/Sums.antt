@@ -1,0 +1,7 @@
+-- Sums of the values of a function at the first numbers.
+use Rattle.std.specs.Prelude.{ℕ, zero, suc, ◌+◌}
+
+-- f 0 + f 1 + .. for the first n numbers
+abbrev pub sum_below : ℕ → (ℕ → ℕ) → ℕ
+sum_below zero f = 0
+sum_below (suc n) f = sum_below n f + f n
