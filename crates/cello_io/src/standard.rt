@@ -1,6 +1,7 @@
 //! The program's standard streams. They tell no bytes.
-ghost use Rattle.std.specs.Prelude.{◌≡◌, ◌<◌, None, Ok, IfOk, IsFalse};
-ghost use Rattle.cello_io.specs.Counts.{HasCause};
+ghost use Rattle.std.specs.Prelude.{◌≡◌, ◌<◌, ◌≤◌, ◌↔◌, length, take, None, Ok, IfOk, OnErr, IsTrue, IsFalse};
+ghost use Rattle.std.specs.Io.KnownBytes.{prepend_known, append_known, IsAtEnd};
+ghost use Rattle.cello_io.specs.Counts.{HasCause, CountsErrors};
 
 use crate::{Failed, Sink, Source};
 use std::io;
@@ -36,7 +37,18 @@ impl Source for StdSource {
 
     ghost read_faults = { λ source. source.faults };
 
-    fn read_piece(&mut self, buf: &mut [u8]) -> Result<usize, Failed> {
+    fn read_piece(&mut self, buf: &mut [u8]) -> Result<usize, Failed>
+        requires has_room { 0 < length buf.old }
+        ensures within { IfOk result (λ count. count ≤ length buf.new) }
+        ensures moved { IfOk result (λ count. ⟦<StdSource as Source>⟧.left self.old
+            ≡ prepend_known (take count buf.new) (⟦<StdSource as Source>⟧.left self.new)) }
+        ensures ended { IfOk result (λ count. IsTrue (⟦<StdSource as Source>⟧.has_ended self.new) ↔ (count ≡ 0)) }
+        ensures at_end { IfOk result (λ count. count ≡ 0 → IsAtEnd (⟦<StdSource as Source>⟧.left self.new)) }
+        ensures kept { OnErr result (⟦<StdSource as Source>⟧.left self.new ≡ ⟦<StdSource as Source>⟧.left self.old) }
+        ensures not_ended { OnErr result (IsFalse (⟦<StdSource as Source>⟧.has_ended self.new)) }
+        ensures cause { HasCause (⟦<StdSource as Source>⟧.read_faults self.old) (⟦<StdSource as Source>⟧.read_faults self.new) result }
+        ensures counted { CountsErrors (⟦<StdSource as Source>⟧.read_faults self.old) (⟦<StdSource as Source>⟧.read_faults self.new) result }
+    {
         match self.stdin.read(buf) {
             Ok(count) => {
                 self.has_ended = count == 0;
@@ -77,7 +89,16 @@ impl Sink for StdSink {
 
     ghost write_faults = { λ sink. sink.faults };
 
-    fn write_piece(&mut self, piece: &[u8]) -> Result<usize, Failed> {
+    fn write_piece(&mut self, piece: &[u8]) -> Result<usize, Failed>
+        requires has_bytes { 0 < length piece.now }
+        ensures within { IfOk result (λ count. (0 < count) × (count ≤ length piece.now)) }
+        ensures appended { IfOk result (λ count. ⟦<StdSink as Sink>⟧.written self.new
+            ≡ append_known (⟦<StdSink as Sink>⟧.written self.old) (take count piece.now)) }
+        ensures kept { OnErr result (⟦<StdSink as Sink>⟧.written self.new ≡ ⟦<StdSink as Sink>⟧.written self.old) }
+        ensures same_rest { ⟦<StdSink as Sink>⟧.rest self.new ≡ ⟦<StdSink as Sink>⟧.rest self.old }
+        ensures cause { HasCause (⟦<StdSink as Sink>⟧.write_faults self.old) (⟦<StdSink as Sink>⟧.write_faults self.new) result }
+        ensures counted { CountsErrors (⟦<StdSink as Sink>⟧.write_faults self.old) (⟦<StdSink as Sink>⟧.write_faults self.new) result }
+    {
         taken(self.stdout.write(piece), &mut self.faults)
     }
 }
@@ -108,7 +129,16 @@ impl Sink for ErrSink {
 
     ghost write_faults = { λ sink. sink.faults };
 
-    fn write_piece(&mut self, piece: &[u8]) -> Result<usize, Failed> {
+    fn write_piece(&mut self, piece: &[u8]) -> Result<usize, Failed>
+        requires has_bytes { 0 < length piece.now }
+        ensures within { IfOk result (λ count. (0 < count) × (count ≤ length piece.now)) }
+        ensures appended { IfOk result (λ count. ⟦<ErrSink as Sink>⟧.written self.new
+            ≡ append_known (⟦<ErrSink as Sink>⟧.written self.old) (take count piece.now)) }
+        ensures kept { OnErr result (⟦<ErrSink as Sink>⟧.written self.new ≡ ⟦<ErrSink as Sink>⟧.written self.old) }
+        ensures same_rest { ⟦<ErrSink as Sink>⟧.rest self.new ≡ ⟦<ErrSink as Sink>⟧.rest self.old }
+        ensures cause { HasCause (⟦<ErrSink as Sink>⟧.write_faults self.old) (⟦<ErrSink as Sink>⟧.write_faults self.new) result }
+        ensures counted { CountsErrors (⟦<ErrSink as Sink>⟧.write_faults self.old) (⟦<ErrSink as Sink>⟧.write_faults self.new) result }
+    {
         taken(self.stderr.write(piece), &mut self.faults)
     }
 }
@@ -117,6 +147,7 @@ impl Sink for ErrSink {
 fn taken(write: io::Result<usize>, faults: &mut u64) -> Result<usize, Failed>
     ensures taken { IfOk result (λ count. (0 < count) × (write ≡ Ok count)) }
     ensures cause { HasCause faults.old faults.new result }
+    ensures counted { CountsErrors faults.old faults.new result }
 {
     match write {
         Ok(count) if count > 0 => Ok(count),
