@@ -15,14 +15,6 @@ pushed {M} start to msg before after b a m =
     let full : List (Envelope M) → List (Envelope M) = λ xs. xs ++ (record { to = to; msg = start to }) ∷ [] in
     a ∙ (ap last m ∙ (ap full b ∙ sym (start_flight-more start to)))
 
--- what an outbox that was empty holds goes behind the rest
-pub appended : {M : Type 0} (rest none sent out made moved after : List (Envelope M)) → none ≡ [] → out ≡ none ++ sent → made ≡ out → moved ≡ made → after ≡ rest ++ moved → after ≡ rest ++ sent
-appended {M} rest none sent out made moved after n o d v a =
-    let behind : List (Envelope M) → List (Envelope M) = λ xs. rest ++ xs in
-    let front : List (Envelope M) → List (Envelope M) = λ xs. xs ++ sent in
-    let all : moved ≡ sent = v ∙ (d ∙ (o ∙ ap front n)) in
-    a ∙ ap behind all
-
 -- an invariant at an equal problem and an equal flight
 pub valid_at : {Q C M : Type 0} (holds : Q → List C → List (Envelope M) → Type 0) (p q : Q) (cells : List C) (flight other : List (Envelope M)) → q ≡ p → flight ≡ other → holds p cells flight → holds q cells other
 valid_at {Q} {C} {M} holds p q cells flight other same is valid =

@@ -1,3 +1,4 @@
 pub mod Steps
 pub mod Courses
 pub mod Delivered
+pub mod Flights

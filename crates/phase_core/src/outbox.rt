@@ -1,4 +1,4 @@
-ghost use Rattle.std.specs.Prelude.{◌≡◌, ◌+◌, ◌≤◌, ◌++◌, ◌∷◌, [], OnOk};
+ghost use Rattle.std.specs.Prelude.{◌≡◌, ◌+◌, ◌≤◌, ◌++◌, ◌∷◌, [], OnOk, reverse};
 
 use crate::envelope::Envelope;
 use cello_num::Memory;
@@ -46,6 +46,15 @@ impl<M> Outbox<M> {
         ensures spare { self.new.spare + 1 ≡ self.old.spare }
     {
         self.sent.push_reserved(envelope);
+    }
+
+    /// Takes other envelopes in the place of those sent so far, which it gives in return, the last one first.
+    pub(crate) fn swap_reversed(&mut self, other: &mut Vec<Envelope<M>>)
+        ensures items { self.new.items ≡ other.old.items }
+        ensures other { other.new.items ≡ reverse self.old.items }
+    {
+        self.sent.as_mut_slice().reverse();
+        std::mem::swap(&mut self.sent, other);
     }
 
     pub fn items(&self) -> &[Envelope<M>]

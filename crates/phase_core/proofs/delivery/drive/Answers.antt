@@ -1,5 +1,4 @@
 use Rattle.std.proofs.Common.{◌≡◌, ◌≤◌, ◌<◌, ◌^◌, ◌∷◌, [], ◌∙◌, ℕ, List, ap, sym, subst, length, arith, replicate}
-use Rattle.std.proofs.lemmas.List.{nil_from_length}
 use Rattle.phase_core.specs.declared.envelope.Envelope.{Envelope}
 use Rattle.phase_core.specs.Machine.{Handle, Runs, start_state}
 use Rattle.phase_core.proofs.Steps.{Laws, Handles-weight}
@@ -22,17 +21,17 @@ handle_next-requires g c =
     let first = c.args.cells.items in
     let p = g.P.Phase.problem c.args.phase first in
     let cells = c.loop-envelope.cells.items in
-    let flight = c.loop-envelope.flight.items in
-    let at = known g c.args.phase c.args.cells.items c.loop-envelope.cells.items c.loop-envelope.flight.items c.loop-envelope.handled c.requires c.loop-envelope.invariant in
-    valid_at g.P.Phase.holds p (g.P.Phase.problem c.args.phase cells) cells flight (c.in-Some.envelope ∷ c.pop_front.new.self.items) at.same c.in-Some.ensures.items at.valid
+    let flight = c.loop-envelope.flight in
+    let at = known g c.args.phase c.args.cells.items c.loop-envelope.cells.items c.loop-envelope.flight c.loop-envelope.handled c.requires c.loop-envelope.invariant in
+    valid_at g.P.Phase.holds p (g.P.Phase.problem c.args.phase cells) cells flight (c.in-Some.envelope ∷ c.pop_front.new.self) at.same c.in-Some.ensures.first at.valid
 
 pub overflow_add-handled : goal.overflow_add-handled
 overflow_add-handled g c =
     let first = c.args.cells.items in
     let p = g.P.Phase.problem c.args.phase first in
     let cells = c.loop-envelope.cells.items in
-    let flight = c.loop-envelope.flight.items in
-    let at = known g c.args.phase c.args.cells.items c.loop-envelope.cells.items c.loop-envelope.flight.items c.loop-envelope.handled c.requires c.loop-envelope.invariant in
+    let flight = c.loop-envelope.flight in
+    let at = known g c.args.phase c.args.cells.items c.loop-envelope.cells.items c.loop-envelope.flight c.loop-envelope.handled c.requires c.loop-envelope.invariant in
     let fits : g.P.Phase.start_weight p < 2 ^ 62 = g.met.P.Phase.start_weight_fits p cells flight at.valid in
     omega (arith, fits, at.light)
 
@@ -41,9 +40,9 @@ loop-envelope-smaller g c =
     let first = c.args.cells.items in
     let p = g.P.Phase.problem c.args.phase first in
     let cells = c.loop-envelope.cells.items in
-    let flight = c.loop-envelope.flight.items in
-    let at = known g c.args.phase c.args.cells.items c.loop-envelope.cells.items c.loop-envelope.flight.items c.loop-envelope.handled c.requires c.loop-envelope.invariant in
-    let event = Handles-at g.P.Phase.react p (g.P.Phase.problem c.args.phase cells) cells flight (c.in-Some.envelope ∷ c.pop_front.new.self.items) (record { cells = c.handle_next.new.cells.items; flight = c.handle_next.new.flight.items }) at.same c.in-Some.ensures.items c.in_ok-handle_next.ensures in
+    let flight = c.loop-envelope.flight in
+    let at = known g c.args.phase c.args.cells.items c.loop-envelope.cells.items c.loop-envelope.flight c.loop-envelope.handled c.requires c.loop-envelope.invariant in
+    let event = Handles-at g.P.Phase.react p (g.P.Phase.problem c.args.phase cells) cells flight (c.in-Some.envelope ∷ c.pop_front.new.self) (record { cells = c.handle_next.new.cells.items; flight = c.handle_next.new.flight }) at.same c.in-Some.ensures.first c.in_ok-handle_next.ensures in
     Handles-weight (laws g p) event at.valid
 
 pub loop-envelope-preserved : goal.loop-envelope-preserved
@@ -51,19 +50,19 @@ loop-envelope-preserved g c =
     let first = c.args.cells.items in
     let p = g.P.Phase.problem c.args.phase first in
     let cells = c.loop-envelope.cells.items in
-    let flight = c.loop-envelope.flight.items in
-    let at = known g c.args.phase c.args.cells.items c.loop-envelope.cells.items c.loop-envelope.flight.items c.loop-envelope.handled c.requires c.loop-envelope.invariant in
-    let event = Handles-at g.P.Phase.react p (g.P.Phase.problem c.args.phase cells) cells flight (c.in-Some.envelope ∷ c.pop_front.new.self.items) (record { cells = c.handle_next.new.cells.items; flight = c.handle_next.new.flight.items }) at.same c.in-Some.ensures.items c.in_ok-handle_next.ensures in
-    plain_more (g.P.Phase.react p) c.loop-envelope.handled (start_state g.P.Phase.start first) (record { cells = cells; flight = flight }) (record { cells = c.handle_next.new.cells.items; flight = c.handle_next.new.flight.items }) c.loop-envelope.invariant event
+    let flight = c.loop-envelope.flight in
+    let at = known g c.args.phase c.args.cells.items c.loop-envelope.cells.items c.loop-envelope.flight c.loop-envelope.handled c.requires c.loop-envelope.invariant in
+    let event = Handles-at g.P.Phase.react p (g.P.Phase.problem c.args.phase cells) cells flight (c.in-Some.envelope ∷ c.pop_front.new.self) (record { cells = c.handle_next.new.cells.items; flight = c.handle_next.new.flight }) at.same c.in-Some.ensures.first c.in_ok-handle_next.ensures in
+    plain_more (g.P.Phase.react p) c.loop-envelope.handled (start_state g.P.Phase.start first) (record { cells = cells; flight = flight }) (record { cells = c.handle_next.new.cells.items; flight = c.handle_next.new.flight }) c.loop-envelope.invariant event
 
 pub settled-requires-clause-holds : goal.settled-requires-clause-holds
 settled-requires-clause-holds g c =
     let first = c.args.cells.items in
     let p = g.P.Phase.problem c.args.phase first in
     let cells = c.loop-envelope.cells.items in
-    let flight = c.loop-envelope.flight.items in
-    let at = known g c.args.phase c.args.cells.items c.loop-envelope.cells.items c.loop-envelope.flight.items c.loop-envelope.handled c.requires c.loop-envelope.invariant in
-    let none : c.loop-envelope.flight.items ≡ [] = nil_from_length c.loop-envelope.flight.items (omega (arith, c.in_default.ensures.cases.0, c.loop-envelope.flight.ok.0)) in
+    let flight = c.loop-envelope.flight in
+    let at = known g c.args.phase c.args.cells.items c.loop-envelope.cells.items c.loop-envelope.flight c.loop-envelope.handled c.requires c.loop-envelope.invariant in
+    let none : c.loop-envelope.flight ≡ [] = c.in_default.ensures.none in
     valid_at g.P.Phase.holds p (g.P.Phase.problem c.args.phase cells) cells flight [] at.same none at.valid
 
 pub settled-requires-clause-bounded : goal.settled-requires-clause-bounded
@@ -71,8 +70,8 @@ settled-requires-clause-bounded g c =
     let first = c.args.cells.items in
     let p = g.P.Phase.problem c.args.phase first in
     let cells = c.loop-envelope.cells.items in
-    let flight = c.loop-envelope.flight.items in
-    let at = known g c.args.phase c.args.cells.items c.loop-envelope.cells.items c.loop-envelope.flight.items c.loop-envelope.handled c.requires c.loop-envelope.invariant in
+    let flight = c.loop-envelope.flight in
+    let at = known g c.args.phase c.args.cells.items c.loop-envelope.cells.items c.loop-envelope.flight c.loop-envelope.handled c.requires c.loop-envelope.invariant in
     let bound : g.P.Phase.start_weight (g.P.Phase.problem c.args.phase cells) ≡ g.P.Phase.start_weight p = ap g.P.Phase.start_weight at.same in
     omega (arith, bound, at.light)
 
@@ -81,8 +80,8 @@ returns-clause-problem g c =
     let first = c.args.cells.items in
     let p = g.P.Phase.problem c.args.phase first in
     let cells = c.loop-envelope.cells.items in
-    let flight = c.loop-envelope.flight.items in
-    let at = known g c.args.phase c.args.cells.items c.loop-envelope.cells.items c.loop-envelope.flight.items c.loop-envelope.handled c.requires c.loop-envelope.invariant in
+    let flight = c.loop-envelope.flight in
+    let at = known g c.args.phase c.args.cells.items c.loop-envelope.cells.items c.loop-envelope.flight c.loop-envelope.handled c.requires c.loop-envelope.invariant in
     ◌∙◌ {b = g.P.Phase.problem c.args.phase cells} c.settled.ensures.problem at.same
 
 pub returns-clause-plain_run : goal.returns-clause-plain_run
@@ -90,8 +89,8 @@ returns-clause-plain_run g c =
     let first = c.args.cells.items in
     let p = g.P.Phase.problem c.args.phase first in
     let cells = c.loop-envelope.cells.items in
-    let flight = c.loop-envelope.flight.items in
-    let none : c.loop-envelope.flight.items ≡ [] = nil_from_length c.loop-envelope.flight.items (omega (arith, c.in_default.ensures.cases.0, c.loop-envelope.flight.ok.0)) in
+    let flight = c.loop-envelope.flight in
+    let none : c.loop-envelope.flight ≡ [] = c.in_default.ensures.none in
     plain_end (g.P.Phase.react p) c.loop-envelope.handled c.settled.result.handled (start_state g.P.Phase.start first) cells c.settled.result.cells flight c.loop-envelope.invariant none c.settled.ensures.handled c.settled.ensures.cells
 
 pub returns-clause-holds : goal.returns-clause-holds
@@ -99,9 +98,9 @@ returns-clause-holds g c =
     let first = c.args.cells.items in
     let p = g.P.Phase.problem c.args.phase first in
     let cells = c.loop-envelope.cells.items in
-    let flight = c.loop-envelope.flight.items in
-    let at = known g c.args.phase c.args.cells.items c.loop-envelope.cells.items c.loop-envelope.flight.items c.loop-envelope.handled c.requires c.loop-envelope.invariant in
-    let none : c.loop-envelope.flight.items ≡ [] = nil_from_length c.loop-envelope.flight.items (omega (arith, c.in_default.ensures.cases.0, c.loop-envelope.flight.ok.0)) in
+    let flight = c.loop-envelope.flight in
+    let at = known g c.args.phase c.args.cells.items c.loop-envelope.cells.items c.loop-envelope.flight c.loop-envelope.handled c.requires c.loop-envelope.invariant in
+    let none : c.loop-envelope.flight ≡ [] = c.in_default.ensures.none in
     let here = subst (λ xs. g.P.Phase.holds p cells xs) none at.valid in
     subst (λ xs. g.P.Phase.holds p xs []) (sym c.settled.ensures.cells) here
 
@@ -110,8 +109,8 @@ returns-clause-handles_each g c =
     let first = c.args.cells.items in
     let p = g.P.Phase.problem c.args.phase first in
     let cells = c.loop-envelope.cells.items in
-    let flight = c.loop-envelope.flight.items in
-    let none : c.loop-envelope.flight.items ≡ [] = nil_from_length c.loop-envelope.flight.items (omega (arith, c.in_default.ensures.cases.0, c.loop-envelope.flight.ok.0)) in
+    let flight = c.loop-envelope.flight in
+    let none : c.loop-envelope.flight ≡ [] = c.in_default.ensures.none in
     let start = start_state g.P.Phase.start first in
     let least : length start.flight ≤ c.settled.result.handled = plain_least (g.P.Phase.react p) c.loop-envelope.handled c.settled.result.handled start (record { cells = cells; flight = flight }) c.loop-envelope.invariant none c.settled.ensures.handled in
     omega (arith, least, length-start_flight g.P.Phase.start (length first))
@@ -121,6 +120,6 @@ returns-clause-bounded g c =
     let first = c.args.cells.items in
     let p = g.P.Phase.problem c.args.phase first in
     let cells = c.loop-envelope.cells.items in
-    let flight = c.loop-envelope.flight.items in
-    let at = known g c.args.phase c.args.cells.items c.loop-envelope.cells.items c.loop-envelope.flight.items c.loop-envelope.handled c.requires c.loop-envelope.invariant in
+    let flight = c.loop-envelope.flight in
+    let at = known g c.args.phase c.args.cells.items c.loop-envelope.cells.items c.loop-envelope.flight c.loop-envelope.handled c.requires c.loop-envelope.invariant in
     omega (arith, c.settled.ensures.handled, at.light)

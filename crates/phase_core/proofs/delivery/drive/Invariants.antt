@@ -4,7 +4,7 @@ use Rattle.phase_core.proofs.delivery.drive.Given as goal
 
 abbrev pub invariant-loop-envelope : goal.invariant-loop-envelope
 invariant-loop-envelope g l =
-    Runs (g.P.Phase.react (g.P.Phase.problem l.fn.phase l.fn.cells.items)) (start_state g.P.Phase.start l.fn.cells.items) (replicate l.handled (Handle 0)) (record { cells = l.cells.items; flight = l.flight.items })
+    Runs (g.P.Phase.react (g.P.Phase.problem l.fn.phase l.fn.cells.items)) (start_state g.P.Phase.start l.fn.cells.items) (replicate l.handled (Handle 0)) (record { cells = l.cells.items; flight = l.flight })
 
 abbrev pub decreases-loop-envelope : goal.decreases-loop-envelope
-decreases-loop-envelope g l = g.P.Phase.weight (g.P.Phase.problem l.fn.phase l.fn.cells.items) l.cells.items l.flight.items
+decreases-loop-envelope g l = g.P.Phase.weight (g.P.Phase.problem l.fn.phase l.fn.cells.items) l.cells.items l.flight
