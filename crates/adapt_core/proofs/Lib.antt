@@ -1,3 +1,4 @@
+pub mod ListsByPlaces
 pub mod Rest
 pub mod Runs
 pub mod Pushes

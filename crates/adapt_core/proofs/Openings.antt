@@ -1,25 +1,15 @@
 -- What the first cells of a leaf set are: the cells with which a phase begins.
-use Rattle.std.proofs.Common.{◌≡◌, ℕ, zero, suc, ◌<◌, List, [], ◌∷◌, Some, map, length, get_or, refl, sym, ap, ◌∙◌, subst}
+use Rattle.std.proofs.Common.{◌≡◌, ℕ, zero, suc, List, [], ◌∷◌, Some, map, refl, sym, ap, ◌∙◌, subst}
 use Rattle.std.specs.Prelude.{slice_get}
-use Rattle.std.proofs.lemmas.List.Elements.{Contains-get_or}
-use Rattle.std.proofs.lemmas.Option.{slice_get-get_or, slice_get_within}
 use Rattle.block_index.specs.Places.{Cube, Grid}
 use Rattle.block_index.specs.declared.wish.Wish.{Wish}
 use Rattle.leaf_set.specs.Meshes.{IsMesh, IsBalanced}
 use Rattle.leaf_set.specs.Opening.{IsOpening}
 use Rattle.leaf_set.specs.Tiling.{IsTiling}
-use Rattle.leaf_set.specs.TouchingLeaves.{AreTouching}
 use Rattle.adapt_core.specs.Cells.{LeafPart, LeafState}
 use Rattle.adapt_core.specs.Problem.{mesh_of, wishes_of, openings_of, IsPartAt, AdaptBegins, unopened, problem_of}
 use Rattle.adapt_core.specs.FirstCells.{AreFirstCells}
 use Rattle.adapt_core.specs.Lookups.{get-map_back}
-
--- a listed neighbour is a leaf
-pub listed_within : (grid : Grid) (mesh : List Cube) (at : ℕ) (js : List ℕ) → AreTouching grid mesh at js → at < length mesh → (k : ℕ) → k < length js → get_or js k 0 < length mesh
-listed_within grid mesh at js touching here k within =
-    let nowhere : Cube = record { level = 0; x = 0; y = 0; z = 0 } in
-    let leaf = touching.touch (get_or js k 0) (get_or mesh at nowhere) (Contains-get_or js k 0 within) (slice_get-get_or mesh at nowhere here) in
-    slice_get_within mesh (get_or js k 0) leaf.0 leaf.1
 
 -- mapped twice
 map_part : {B : Type 0} (f : LeafPart → B) (cells : List LeafState) → map f (map (λ (c : LeafState). c.part) cells) ≡ map (λ c. f c.part) cells
@@ -43,15 +33,10 @@ module _ (grid : Grid) (mesh : List Cube) (wishes : List Wish) (cells : List Lea
   first_openings : openings_of (problem_of grid cells) ≡ map (λ (c : LeafState). c.part.opening) cells
   first_openings = map_part (λ (x : LeafPart). x.opening) cells
 
-  first_part : (i : ℕ) (part : LeafPart) → slice_get (problem_of grid cells).parts i ≡ Some part → IsPartAt (problem_of grid cells) i part
+  first_part : (i : ℕ) (part : LeafPart) → slice_get (problem_of grid cells).parts i ≡ Some part → IsPartAt grid (mesh_of (problem_of grid cells)) i part
   first_part i part at =
       let c = get-map_back (λ (x : LeafState). x.part) cells i part at in
-      let u = are.begun i c.0 c.1 in
-      subst (IsPartAt (problem_of grid cells) i) c.2 (record {
-        index = u.index;
-        touching = subst (λ m. AreTouching grid m i (map (λ n. n.at) c.0.part.neighbours)) (sym first_mesh) u.neighbours.touching;
-        placed = λ n listed. subst (λ m. slice_get m n.at ≡ Some n.place) (sym first_mesh) (u.neighbours.placed n listed);
-      })
+      subst (λ m. IsPartAt grid m i part) (sym first_mesh) (subst (IsPartAt grid mesh i) c.2 (are.begun i c.0 c.1).part)
 
   opening_first : IsOpening grid (mesh_of (problem_of grid cells)) (wishes_of (problem_of grid cells)) (openings_of (problem_of grid cells))
   opening_first =

@@ -1,8 +1,7 @@
 -- One more element of a list that a loop makes.
 use Rattle.std.proofs.Common.{◌≡◌, ℕ, zero, suc, ◌+◌, ◌<◌, List, [], ◌∷◌, ◌++◌, Some, map, length, take, get_or, refl, sym, ap, ◌∙◌, subst, arith, ◌⊎◌, inl, inr}
-use Rattle.std.specs.Prelude.{Contains, slice_get}
+use Rattle.std.specs.Prelude.{slice_get}
 use Rattle.std.proofs.lemmas.List.{take_more, map-append, length-append}
-use Rattle.std.proofs.lemmas.List.Elements.{Contains-push_cases}
 use Rattle.std.proofs.lemmas.Option.{none-some, same_Some}
 
 pub mapped_push : {A B : Type 0} (f : A → B) (xs zs : List A) (y : A) (ys : List B) (n : ℕ) (d : B) → map f xs ≡ take n ys → zs ≡ xs ++ y ∷ [] → n < length ys → f y ≡ get_or ys n d → map f zs ≡ take (n + 1) ys
@@ -10,10 +9,6 @@ mapped_push {A} {B} f xs zs y ys n d so is within last =
     let front : List B → List B = λ l. l ++ f y ∷ [] in
     let end : B → List B = λ b. take n ys ++ b ∷ [] in
     ap (map f) is ∙ (map-append f xs (y ∷ []) ∙ (ap front so ∙ (ap end last ∙ sym (take_more ys n d within))))
-
-pub Contains_push : {A : Type 0} (P : A → Type 0) (xs zs : List A) (y : A) → zs ≡ xs ++ y ∷ [] → ((x : A) → Contains xs x → P x) → P y → (x : A) → Contains zs x → P x
-Contains_push {A} P xs zs y is each last x h =
-    elim (Contains-push_cases xs y x (subst (λ (l : List A). Contains l x) is h)) [ inl old ↦ each x old | inr new ↦ subst P new last ]
 
 get-push_cases : {A : Type 0} (xs : List A) (y z : A) (i : ℕ) → slice_get (xs ++ y ∷ []) i ≡ Some z → (slice_get xs i ≡ Some z) ⊎ ((i ≡ length xs) × (y ≡ z))
 get-push_cases [] y z zero h = inr (refl, same_Some y z h)

@@ -1,5 +1,5 @@
 -- The adapt phase keeps the laws of phases.
-use Rattle.std.proofs.Common.{◌≡◌, ℕ, ◌+◌, ◌-◌, ◌*◌, ◌^◌, ◌<◌, ◌≤◌, true, cond, List, Some, map, length, get_or, refl, ap, ◌∙◌, subst, arith, inl, inr, mul-le-mul_right}
+use Rattle.std.proofs.Common.{◌≡◌, ℕ, ◌+◌, ◌-◌, ◌*◌, ◌^◌, ◌<◌, ◌≤◌, true, cond, List, Some, length, get_or, refl, ap, ◌∙◌, subst, arith, inl, inr, mul-le-mul_right}
 use Rattle.std.specs.Prelude.{All, IsPermutation, slice_get, slice_set, ◌&&◌}
 use Rattle.std.proofs.lemmas.Bool.{eq-eqb}
 use Rattle.std.proofs.lemmas.List.{length-map}
@@ -83,10 +83,9 @@ start_weight_few p valid =
     let one : LeafPart → ℕ = λ x. 1 + degree x + (x.place.level + 1 - (x.place.level - 1)) * degree x in
     let each : All (λ x. one x ≤ 169) p.parts = λ k d within.
     let part : LeafPart = get_or p.parts k d in
-    let few : length (map (λ n. n.at) part.neighbours) ≤ 56 = (valid.parts k part (slice_get-get_or p.parts k d within)).touching.few in
-    let deg : length (map (λ n. n.at) part.neighbours) ≡ degree part = length-map part.neighbours (λ n. n.at) in
+    let few : degree part ≤ 56 = (valid.parts k part (slice_get-get_or p.parts k d within)).touching.few in
     let two : (part.place.level + 1 - (part.place.level - 1)) * degree part ≤ 2 * degree part = mul-le-mul_right (degree part) (let less : part.place.level + 1 - (part.place.level - 1) ≤ 2 = omega arith in less) in
-    omega (arith, few, deg, two) in
+    omega (arith, few, two) in
     let all : adapt_start_weight p ≤ length p.parts * 169 = sum_by-le one 169 p.parts each in
     omega (arith, all, few_leaves p valid)
 

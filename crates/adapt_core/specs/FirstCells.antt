@@ -1,23 +1,15 @@
 -- The cells with which a phase over a leaf set begins.
-use Rattle.std.specs.Prelude.{◌≡◌, ℕ, List, Some, Contains, map, slice_get}
+use Rattle.std.specs.Prelude.{◌≡◌, ℕ, List, Some, map, slice_get}
 use Rattle.block_index.specs.Places.{Cube, Grid}
 use Rattle.block_index.specs.declared.wish.Wish.{Wish}
 use Rattle.leaf_set.specs.Opening.{IsOpening}
-use Rattle.leaf_set.specs.TouchingLeaves.{AreTouching}
-use Rattle.adapt_core.specs.declared.neighbour.Neighbour.{Neighbour}
 use Rattle.adapt_core.specs.Cells.{LeafState}
-use Rattle.adapt_core.specs.Problem.{unopened}
+use Rattle.adapt_core.specs.Problem.{IsPartAt, unopened}
 
--- the leaves that touch the one at a position, with their places
-pub record AreNeighbours (grid : Grid) (mesh : List Cube) (at : ℕ) (neighbours : List Neighbour) : Type 0 where
-  pub touching : AreTouching grid mesh at (map (λ n. n.at) neighbours)
-  pub placed : (n : Neighbour) → Contains neighbours n → slice_get mesh n.at ≡ Some n.place
-
--- a cell before anything is handled, that knows its position and the leaves that touch the one there
+-- a cell before anything is handled, with the part of the leaf at a position
 pub record IsUnopenedAt (grid : Grid) (mesh : List Cube) (at : ℕ) (cell : LeafState) : Type 0 where
   pub fresh : cell ≡ unopened cell.part
-  pub index : cell.part.index ≡ at
-  pub neighbours : AreNeighbours grid mesh at cell.part.neighbours
+  pub part : IsPartAt grid mesh at cell.part
 
 -- the first cell of the leaf at a position, of this wish and opening level
 pub record IsFirstCell (grid : Grid) (mesh : List Cube) (at : ℕ) (wish : Wish) (opening : ℕ) (cell : LeafState) : Type 0 where

@@ -67,7 +67,7 @@ module _ (p : AdaptProblem) (cells : List LeafState) (valid : IsAdaptProblem p) 
       let below : b.level ≤ slice_index levels from = high levels h from b told.2 in
       let jump : slice_index levels from - 1 ≤ slice_index levels to = h.jump to from c.part.place b.part.place at there touch in
       let under : value ≤ b.level = told.5 in
-      asked_most p to c.part (part_at p cells valid parts to c here) at from b.part.place there touch value (slice_index levels to) (omega arith) (λ s.
+      asked_most p.grid (mesh_of p) to c.part (part_at p cells valid parts to c here) at from b.part.place there touch value (slice_index levels to) (omega arith) (λ s.
       let least : min (slice_index levels from) c.part.place.level ≤ slice_index levels to = h.siblings to from c.part.place b.part.place at there s in
       omega arith)
 
@@ -101,8 +101,8 @@ module _ (p : AdaptProblem) (cells : List LeafState) (valid : IsAdaptProblem p) 
             let from_at = get_place p cells valid parts from b there in
             let part = part_at p cells valid parts to c here in
             record {
-              jump = omega (arith, asked_jump p to c.part part at from b.part.place from_at back value);
-              siblings = λ s. omega (arith, asked_siblings p to c.part part at from b.part.place from_at back value s);
+              jump = omega (arith, asked_jump p.grid (mesh_of p) to c.part part at from b.part.place from_at back value);
+              siblings = λ s. omega (arith, asked_siblings p.grid (mesh_of p) to c.part part at from b.part.place from_at back value s);
             };
       }
 

@@ -92,7 +92,7 @@ impl Phase for Adapt {
                 cell.start(level);
             }
             AdaptMsg::Level { from, value } => {
-                let level = cell.level().max(cell.asked(from, value));
+                let level = cell.raised(from, value);
                 if cell.started() && cell.level() < level {
                     cell.tell(level, out)?;
                 }

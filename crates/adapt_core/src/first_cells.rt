@@ -1,14 +1,18 @@
-ghost use Rattle.std.specs.Prelude.{◌≡◌, ◌^◌, ◌<◌, ◌≤◌, IfOk, length};
-ghost use Rattle.adapt_core.specs.FirstCells.{AreFirstCells, AreNeighbours, IsFirstCell};
+ghost use Rattle.std.specs.Prelude.{◌≡◌, ◌^◌, ◌<◌, ◌≤◌, All, IfOk, length};
+ghost use Rattle.adapt_core.specs.FirstCells.{AreFirstCells, IsFirstCell};
+ghost use Rattle.adapt_core.specs.Problem.{siblings_among};
 
 use crate::cell::AdaptCell;
-use crate::neighbour::Neighbour;
-use block_index::Wish;
+use crate::siblings::are_siblings;
+use block_index::{Place, Wish};
 use cello_neighbours::touching;
 use cello_num::Memory;
 use leaf_set::LeafSet;
 use sibling_rule::opening;
 use std::alloc::Global;
+
+/// How many leaves can be siblings of one.
+const MOST_SIBLINGS: usize = 7;
 
 /// The cells of a leaf set before anything is handled, in the order of the leaves.
 pub(crate) fn first_cells(
@@ -39,20 +43,27 @@ pub(crate) fn first_cell(
     requires limit { length set.now.places ≤ 2 ^ 30 }
     ensures { IfOk result (λ cell. IsFirstCell set.now.grid set.now.places at wish opening cell) }
 {
-    let neighbours = neighbours_of(alloc, set, at)?;
-    Ok(AdaptCell::unopened(at as u32, set.place(at), wish, opening, neighbours))
+    let place = set.place(at);
+    let neighbours = Vec::from_slice(alloc, touching(set, at).items())?;
+    let siblings = siblings_among(alloc, set, place, &neighbours)?;
+    Ok(AdaptCell::unopened(at as u32, place, wish, opening, neighbours, siblings))
 }
 
-/// The leaves that touch the one at position `at`.
-fn neighbours_of(alloc: Global, set: &LeafSet, at: usize) -> Result<Vec<Neighbour>, Memory>
-    requires { at < length set.now.places }
-    ensures { IfOk result (λ neighbours. AreNeighbours set.now.grid set.now.places at neighbours.items) }
+/// Those of the leaves at these positions that are siblings of a place.
+fn siblings_among(
+    alloc: Global,
+    set: &LeafSet,
+    place: Place,
+    leaves: &[u32],
+) -> Result<Vec<u32>, Memory>
+    requires below { All (λ j. j < length set.now.places) leaves.now }
+    ensures { IfOk result (λ siblings. siblings.items ≡ siblings_among set.now.places place leaves.now) }
 {
-    let leaves = touching(set, at);
-    let mut neighbours = Vec::with_capacity(alloc, leaves.len())?;
-    for j in leaves.items() {
-        let place = set.place(*j as usize);
-        neighbours.push(Neighbour { at: *j, place })?;
+    let mut siblings = Vec::with_capacity(alloc, MOST_SIBLINGS)?;
+    for j in leaves {
+        if are_siblings(place, set.place(*j as usize)) {
+            siblings.push(*j)?;
+        }
     }
-    Ok(neighbours)
+    Ok(siblings)
 }
