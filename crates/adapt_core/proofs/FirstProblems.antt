@@ -14,15 +14,18 @@ use Rattle.leaf_set.proofs.Decisions.{each_below_or}
 use Rattle.sibling_rule.specs.OwnLevel.{IsLone, OpensAt}
 use Rattle.sibling_rule.proofs.OpeningSteps.{IsOpening-AreOpening}
 use Rattle.phase_core.specs.Machine.{CoreState, RunsPlainly, start_state}
-use Rattle.phase_core.proofs.Steps.{Laws}
-use Rattle.phase_core.proofs.Courses.{RunsPlainly-reached}
+use Rattle.phase_core.proofs.Events.{Laws}
+use Rattle.phase_core.proofs.Deliveries.{RunsPlainly-reached}
 use Rattle.adapt_core.specs.declared.adapt_msg.AdaptMsg.{AdaptMsg}
 use Rattle.adapt_core.specs.Cells.{LeafPart, LeafState, AdaptProblem}
 use Rattle.adapt_core.specs.React.{adapt_react, adapt_start}
-use Rattle.adapt_core.specs.Problem.{mesh_of, wishes_of, openings_of, siblings_among, IsPartAt, IsAdaptProblem, AdaptBegins, unopened}
+use Rattle.adapt_core.specs.Problem.{mesh_of, wishes_of, siblings_among, IsAdaptProblem, AdaptBegins, unopened}
 use Rattle.adapt_core.specs.Holds.{AdaptHolds, adapt_weight}
-use Rattle.adapt_core.specs.AdaptLaws.{keeps, lowers, holds_in_any_order, weighs_in_any_order, addressed, start_holds}
-use Rattle.adapt_core.proofs.ListsByPlaces.{mapped, list_exists}
+use Rattle.adapt_core.specs.Lemmas.AdaptLaws.{keeps, lowers, holds_in_any_order, weighs_in_any_order, addressed, start_holds}
+use Rattle.phase_core.specs.Lemmas.ListsByPlaces.{list_exists}
+use Rattle.adapt_core.specs.Lemmas.FirstCells.{IsPartOf}
+use Rattle.adapt_core.proofs.PartsOfLeaves.{IsAdaptProblem-parts, parts_mesh, parts_wishes}
+use Rattle.leaf_set.specs.Tiling.{IsTiling}
 use Rattle.adapt_core.proofs.TouchingLists.{touching_list}
 
 -- ---- opening levels
@@ -105,13 +108,6 @@ opening_exists grid mesh wishes m long =
 
 -- ---- parts
 
--- the part of the leaf at a position, with its wish and its opening level
-record IsPartOf (grid : Grid) (mesh : List Cube) (wishes : List Wish) (levels : List ℕ) (i : ℕ) (part : LeafPart) : Type 0 where
-  is : IsPartAt grid mesh i part
-  place : slice_get mesh i ≡ Some part.place
-  wish : slice_get wishes i ≡ Some part.wish
-  opening : slice_get levels i ≡ Some part.opening
-
 part_exists : (grid : Grid) (mesh : List Cube) (wishes : List Wish) (levels : List ℕ) → IsDomain grid → IsMesh grid mesh → IsBalanced grid mesh → length wishes ≡ length mesh → length levels ≡ length mesh → (i : ℕ) → i < length mesh → (part : LeafPart) × IsPartOf grid mesh wishes levels i part
 part_exists grid mesh wishes levels g m balanced long tall i within =
     let a : Cube = get_or mesh i (record { level = 0; x = 0; y = 0; z = 0 }) in
@@ -139,25 +135,13 @@ pub problem_exists : (grid : Grid) (mesh : List Cube) (wishes : List Wish) → I
 problem_exists grid mesh wishes g m balanced long =
     let levels = opening_exists grid mesh wishes m long in
     let parts = list_exists (IsPartOf grid mesh wishes levels.0) (length mesh) (part_exists grid mesh wishes levels.0 g m balanced long levels.1.one_each) in
-    let p : AdaptProblem = record { grid = grid; parts = parts.0 } in
-    let places : mesh_of p ≡ mesh = mapped (λ (x : LeafPart). x.place) parts.0 mesh parts.1.many (λ i x at. (parts.1.each i x at).place) in
-    let wished : wishes_of p ≡ wishes = mapped (λ (x : LeafPart). x.wish) parts.0 wishes (parts.1.many ∙ sym long) (λ i x at. (parts.1.each i x at).wish) in
-    let opened : openings_of p ≡ levels.0 = mapped (λ (x : LeafPart). x.opening) parts.0 levels.0 (parts.1.many ∙ sym levels.1.one_each) (λ i x at. (parts.1.each i x at).opening) in
+    let tiles : IsTiling (record { grid = grid; places = mesh }) = record { domain = g; mesh = m; balanced = balanced } in
     record {
-      problem = p;
-      is = record {
-        domain = g;
-        mesh = subst (λ xs. IsMesh grid xs) (sym places) m;
-        balanced = subst (λ xs. IsBalanced grid xs) (sym places) balanced;
-        opening =
-            subst (λ xs. IsOpening grid xs (wishes_of p) (openings_of p)) (sym places)
-            (subst (λ ws. IsOpening grid mesh ws (openings_of p)) (sym wished)
-            (subst (λ ls. IsOpening grid mesh wishes ls) (sym opened) levels.1));
-        parts = λ i x at. subst (λ xs. IsPartAt grid xs i x) (sym places) (parts.1.each i x at).is;
-      };
+      problem = record { grid = grid; parts = parts.0 };
+      is = IsAdaptProblem-parts grid mesh wishes levels.0 tiles long levels.1 parts.0 parts.1;
       same_grid = refl;
-      same_mesh = places;
-      same_wishes = wished;
+      same_mesh = parts_mesh grid mesh wishes levels.0 tiles long levels.1 parts.0 parts.1;
+      same_wishes = parts_wishes grid mesh wishes levels.0 tiles long levels.1 parts.0 parts.1;
     }
 
 pub begins_exists : (p : AdaptProblem) → IsAdaptProblem p → AdaptBegins p (map unopened p.parts)

@@ -1,8 +1,7 @@
 -- There is one problem for a domain, a mesh and its wishes: the opening levels, and the lists of touching leaves with
 -- their places, follow from them.
-use Rattle.std.proofs.Common.{◌≡◌, ℕ, zero, suc, ◌+◌, ◌<◌, List, [], ◌∷◌, Some, map, length, sym, ap, ◌∙◌, subst, arith, inl, inr}
-use Rattle.std.specs.Prelude.{Contains, slice_get, slice_index}
-use Rattle.std.specs.List.Sorted.{IsStrictlyIncreasing}
+use Rattle.std.proofs.Common.{◌≡◌, ℕ, List, Some, map, length, sym, ap, ◌∙◌, subst, arith}
+use Rattle.std.specs.Prelude.{slice_get}
 use Rattle.std.proofs.lemmas.List.{length-map}
 use Rattle.std.proofs.lemmas.Option.{same_Some}
 use Rattle.block_index.specs.Places.{Cube, Grid}
@@ -13,25 +12,8 @@ use Rattle.leaf_set.proofs.Solutions.{same_levels}
 use Rattle.adapt_core.specs.Cells.{LeafPart, LeafState, AdaptProblem}
 use Rattle.adapt_core.specs.Problem.{mesh_of, wishes_of, openings_of, siblings_among, IsAdaptProblem, AdaptBegins, unopened}
 use Rattle.cello_neighbours.proofs.AscendingLists.{same_ascending}
-use Rattle.adapt_core.specs.Lookups.{get-map, Contains-cons_cases}
-use Rattle.adapt_core.proofs.ListsByPlaces.{same_list}
-
--- ---- lists
-
-pub increasing-tail : (x : ℕ) (xs : List ℕ) → IsStrictlyIncreasing (x ∷ xs) → IsStrictlyIncreasing xs
-increasing-tail x xs up k within =
-    let next : suc k + 1 ≡ suc (k + 1) = omega arith in
-    omega (arith, up (suc k) (omega arith), ap (λ i. slice_index (x ∷ xs) i) next)
-
--- the first is below all others
-pub increasing-above : (x : ℕ) (xs : List ℕ) → IsStrictlyIncreasing (x ∷ xs) → (j : ℕ) → Contains xs j → x < j
-increasing-above x [] up j h = absurd (omega (arith, h.1))
-increasing-above x (y ∷ ys) up j h =
-    let first : x < y = up zero (omega arith) in
-    elim (Contains-cons_cases y ys j h) [
-      | inl here ↦ omega (arith, first, here)
-      | inr later ↦ omega (arith, first, increasing-above y ys (increasing-tail x (y ∷ ys) up) j later)
-    ]
+use Rattle.phase_core.specs.Lemmas.Lookups.{get-map}
+use Rattle.phase_core.specs.Lemmas.ListsByPlaces.{same_list}
 
 -- ---- what follows from the mesh
 

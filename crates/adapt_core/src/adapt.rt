@@ -31,7 +31,7 @@ impl Phase for Adapt {
     ghost use Rattle.adapt_core.specs.Problem.{problem_of, AdaptBegins};
     ghost use Rattle.adapt_core.specs.Holds.{AdaptHolds, adapt_weight, adapt_start_weight};
     ghost use Rattle.adapt_core.specs.React.{adapt_react, adapt_start};
-    ghost use Rattle.adapt_core.specs.AdaptLaws as laws;
+    ghost use Rattle.adapt_core.specs.Lemmas.AdaptLaws as laws;
 
     type Cell = AdaptCell;
 

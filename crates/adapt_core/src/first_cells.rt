@@ -1,5 +1,5 @@
 ghost use Rattle.std.specs.Prelude.{◌≡◌, ◌^◌, ◌<◌, ◌≤◌, All, IfOk, length};
-ghost use Rattle.adapt_core.specs.FirstCells.{AreFirstCells, IsFirstCell};
+ghost use Rattle.adapt_core.specs.Lemmas.FirstCells.{AreFirstCells, IsFirstCell};
 ghost use Rattle.adapt_core.specs.Problem.{siblings_among};
 
 use crate::cell::AdaptCell;
@@ -25,8 +25,8 @@ pub(crate) fn first_cells(
 {
     let openings = opening(alloc, set, wishes)?;
     let mut cells = Vec::with_capacity(alloc, set.len())?;
-    for (at, wish) in wishes.iter().enumerate() {
-        cells.push(first_cell(alloc, set, at, *wish, openings[at])?)?;
+    for at in 0..set.len() {
+        cells.push(first_cell(alloc, set, wishes, &openings, at)?)?;
     }
     Ok(cells)
 }
@@ -35,15 +35,18 @@ pub(crate) fn first_cells(
 pub(crate) fn first_cell(
     alloc: Global,
     set: &LeafSet,
+    wishes: &[Wish],
+    openings: &[u8],
     at: usize,
-    wish: Wish,
-    opening: u8,
 ) -> Result<AdaptCell, Memory>
     requires leaf { at < length set.now.places }
     requires limit { length set.now.places ≤ 2 ^ 30 }
-    ensures { IfOk result (λ cell. IsFirstCell set.now.grid set.now.places at wish opening cell) }
+    requires wishes { length wishes.now ≡ length set.now.places }
+    requires openings { length openings.now ≡ length set.now.places }
+    ensures { IfOk result (λ cell. IsFirstCell set.now.grid set.now.places wishes.now openings.now at cell) }
 {
     let place = set.place(at);
+    let (wish, opening) = (wishes[at], openings[at]);
     let neighbours = Vec::from_slice(alloc, touching(set, at).items())?;
     let siblings = siblings_among(alloc, set, place, &neighbours)?;
     Ok(AdaptCell::unopened(at as u32, place, wish, opening, neighbours, siblings))

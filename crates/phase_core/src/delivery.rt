@@ -1,3 +1,5 @@
+//! Running a phase on one thread: its start messages, and then one handling after another.
+
 ghost use Rattle.std.specs.Prelude.{◌≡◌, ◌≤◌, ◌∷◌, [], IfOk, OnOk, length};
 ghost use Rattle.phase_core.specs.Machine.{Handles, RunsPlainly, start_flight, start_state};
 
@@ -11,7 +13,7 @@ use std::alloc::Global;
 
 /// Runs the phase on one thread, first in first out, from its start until nothing is in flight.
 pub fn drive<P: Phase>(alloc: Global, phase: P, mut cells: Vec<P::Cell>) -> Result<Quiet<P>, Memory>
-    requires { P.begins (P.problem phase cells.items) cells.items }
+    requires begins { P.begins (P.problem phase cells.items) cells.items }
     ensures problem { IfOk result (λ quiet. quiet.problem ≡ P.problem phase cells.items) }
     ensures plain_run { IfOk result (λ quiet. RunsPlainly (P.react (P.problem phase cells.items)) (start_state P.start cells.items) quiet.handled (record { cells = quiet.cells; flight = [] })) }
     ensures holds { IfOk result (λ quiet. P.holds (P.problem phase cells.items) quiet.cells []) }

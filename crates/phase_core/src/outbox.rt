@@ -1,3 +1,5 @@
+//! What a handling sends.
+
 ghost use Rattle.std.specs.Prelude.{◌≡◌, ◌+◌, ◌≤◌, ◌++◌, ◌∷◌, [], OnOk, reverse};
 
 use crate::envelope::Envelope;
@@ -40,8 +42,9 @@ impl<M> Outbox<M> {
         Ok(())
     }
 
+    /// Puts an envelope behind the others, at a reserved place.
     pub fn push(&mut self, envelope: Envelope<M>)
-        requires { 1 ≤ self.old.spare }
+        requires room { 1 ≤ self.old.spare }
         ensures items { self.new.items ≡ self.old.items ++ envelope ∷ [] }
         ensures spare { self.new.spare + 1 ≡ self.old.spare }
     {
@@ -57,14 +60,16 @@ impl<M> Outbox<M> {
         std::mem::swap(&mut self.sent, other);
     }
 
+    /// The envelopes, first sent first.
     pub fn items(&self) -> &[Envelope<M>]
-        ensures { result.now ≡ self.now.items }
+        ensures items { result.now ≡ self.now.items }
     {
         self.sent.as_slice()
     }
 
+    /// The envelopes, first sent first, as a list of one's own.
     pub fn into_items(self) -> Vec<Envelope<M>>
-        ensures { result.items ≡ self.items }
+        ensures items { result.items ≡ self.items }
     {
         let Outbox { sent } = self;
         sent

@@ -1,9 +1,10 @@
+-- `drive` goes through the plain run: what each turn and the end owe.
 use Rattle.std.proofs.Common.{◌≡◌, ◌≤◌, ◌<◌, ◌^◌, ◌∷◌, [], ◌∙◌, ℕ, List, ap, sym, subst, length, arith, replicate}
 use Rattle.phase_core.specs.declared.envelope.Envelope.{Envelope}
-use Rattle.phase_core.specs.Machine.{Handle, Runs, start_state}
-use Rattle.phase_core.proofs.Steps.{Laws, Handles-weight}
-use Rattle.phase_core.proofs.Delivered.{Reached, reached, valid_at, Handles-at, plain_more, plain_end, plain_least}
-use Rattle.phase_core.specs.Starts.{length-start_flight}
+use Rattle.phase_core.specs.Machine.{Handle, Delivers, start_state}
+use Rattle.phase_core.proofs.Events.{Laws, Handles-weight}
+use Rattle.phase_core.proofs.Driving.{Reached, reached, valid_at, Handles-at, plain_more, plain_end, plain_least}
+use Rattle.phase_core.specs.Lemmas.Starts.{length-start_flight}
 use Rattle.phase_core.proofs.delivery.drive.Given.{Over}
 use Rattle.phase_core.proofs.delivery.drive.Goals as goal
 
@@ -11,7 +12,7 @@ laws : (g : Over) (p : g.row.P-Problem.Denot) → Laws (g.P.Phase.react p) (g.P.
 laws g p = record { keeps = g.met.P.Phase.keeps p; lowers = g.met.P.Phase.lowers p; holds_in_any_order = g.met.P.Phase.holds_in_any_order p; weighs_in_any_order = g.met.P.Phase.weighs_in_any_order p; addressed = g.met.P.Phase.addressed p }
 
 -- where the loop stands
-known : (g : Over) (phase : g.row.P.Denot) (first cells : List g.row.P-Cell.Denot) (flight : List (Envelope g.row.P-Msg.Denot)) (n : ℕ) → g.P.Phase.begins (g.P.Phase.problem phase first) first → Runs (g.P.Phase.react (g.P.Phase.problem phase first)) (start_state g.P.Phase.start first) (replicate n (Handle 0)) (record { cells = cells; flight = flight }) → Reached (g.P.Phase.holds (g.P.Phase.problem phase first)) (g.P.Phase.weight (g.P.Phase.problem phase first)) (g.P.Phase.problem phase) (g.P.Phase.problem phase first) (g.P.Phase.start_weight (g.P.Phase.problem phase first)) n cells flight
+known : (g : Over) (phase : g.row.P.Denot) (first cells : List g.row.P-Cell.Denot) (flight : List (Envelope g.row.P-Msg.Denot)) (n : ℕ) → g.P.Phase.begins (g.P.Phase.problem phase first) first → Delivers (g.P.Phase.react (g.P.Phase.problem phase first)) (start_state g.P.Phase.start first) (replicate n (Handle 0)) (record { cells = cells; flight = flight }) → Reached (g.P.Phase.holds (g.P.Phase.problem phase first)) (g.P.Phase.weight (g.P.Phase.problem phase first)) (g.P.Phase.problem phase) (g.P.Phase.problem phase first) (g.P.Phase.start_weight (g.P.Phase.problem phase first)) n cells flight
 known g phase first cells flight n begins runs =
     let p = g.P.Phase.problem phase first in
     reached (laws g p) (g.P.Phase.problem phase) (g.met.P.Phase.same_problem phase p) (g.P.Phase.start_weight p) n (start_state g.P.Phase.start first) cells flight (g.met.P.Phase.start_holds p first begins) (g.met.P.Phase.start_weighs p first begins) runs
@@ -22,7 +23,7 @@ handle_next-requires g c =
     let p = g.P.Phase.problem c.args.phase first in
     let cells = c.loop-envelope.cells.items in
     let flight = c.loop-envelope.flight in
-    let at = known g c.args.phase c.args.cells.items c.loop-envelope.cells.items c.loop-envelope.flight c.loop-envelope.handled c.requires c.loop-envelope.invariant in
+    let at = known g c.args.phase c.args.cells.items c.loop-envelope.cells.items c.loop-envelope.flight c.loop-envelope.handled c.requires.begins c.loop-envelope.invariant in
     valid_at g.P.Phase.holds p (g.P.Phase.problem c.args.phase cells) cells flight (c.in-Some.envelope ∷ c.pop_front.new.self) at.same c.in-Some.ensures.first at.valid
 
 pub overflow_add-handled : goal.overflow_add-handled
@@ -31,7 +32,7 @@ overflow_add-handled g c =
     let p = g.P.Phase.problem c.args.phase first in
     let cells = c.loop-envelope.cells.items in
     let flight = c.loop-envelope.flight in
-    let at = known g c.args.phase c.args.cells.items c.loop-envelope.cells.items c.loop-envelope.flight c.loop-envelope.handled c.requires c.loop-envelope.invariant in
+    let at = known g c.args.phase c.args.cells.items c.loop-envelope.cells.items c.loop-envelope.flight c.loop-envelope.handled c.requires.begins c.loop-envelope.invariant in
     let fits : g.P.Phase.start_weight p < 2 ^ 62 = g.met.P.Phase.start_weight_fits p cells flight at.valid in
     omega (arith, fits, at.light)
 
@@ -41,7 +42,7 @@ loop-envelope-smaller g c =
     let p = g.P.Phase.problem c.args.phase first in
     let cells = c.loop-envelope.cells.items in
     let flight = c.loop-envelope.flight in
-    let at = known g c.args.phase c.args.cells.items c.loop-envelope.cells.items c.loop-envelope.flight c.loop-envelope.handled c.requires c.loop-envelope.invariant in
+    let at = known g c.args.phase c.args.cells.items c.loop-envelope.cells.items c.loop-envelope.flight c.loop-envelope.handled c.requires.begins c.loop-envelope.invariant in
     let event = Handles-at g.P.Phase.react p (g.P.Phase.problem c.args.phase cells) cells flight (c.in-Some.envelope ∷ c.pop_front.new.self) (record { cells = c.handle_next.new.cells.items; flight = c.handle_next.new.flight }) at.same c.in-Some.ensures.first c.in_ok-handle_next.ensures in
     Handles-weight (laws g p) event at.valid
 
@@ -51,7 +52,7 @@ loop-envelope-preserved g c =
     let p = g.P.Phase.problem c.args.phase first in
     let cells = c.loop-envelope.cells.items in
     let flight = c.loop-envelope.flight in
-    let at = known g c.args.phase c.args.cells.items c.loop-envelope.cells.items c.loop-envelope.flight c.loop-envelope.handled c.requires c.loop-envelope.invariant in
+    let at = known g c.args.phase c.args.cells.items c.loop-envelope.cells.items c.loop-envelope.flight c.loop-envelope.handled c.requires.begins c.loop-envelope.invariant in
     let event = Handles-at g.P.Phase.react p (g.P.Phase.problem c.args.phase cells) cells flight (c.in-Some.envelope ∷ c.pop_front.new.self) (record { cells = c.handle_next.new.cells.items; flight = c.handle_next.new.flight }) at.same c.in-Some.ensures.first c.in_ok-handle_next.ensures in
     plain_more (g.P.Phase.react p) c.loop-envelope.handled (start_state g.P.Phase.start first) (record { cells = cells; flight = flight }) (record { cells = c.handle_next.new.cells.items; flight = c.handle_next.new.flight }) c.loop-envelope.invariant event
 
@@ -61,7 +62,7 @@ settled-requires-clause-holds g c =
     let p = g.P.Phase.problem c.args.phase first in
     let cells = c.loop-envelope.cells.items in
     let flight = c.loop-envelope.flight in
-    let at = known g c.args.phase c.args.cells.items c.loop-envelope.cells.items c.loop-envelope.flight c.loop-envelope.handled c.requires c.loop-envelope.invariant in
+    let at = known g c.args.phase c.args.cells.items c.loop-envelope.cells.items c.loop-envelope.flight c.loop-envelope.handled c.requires.begins c.loop-envelope.invariant in
     let none : c.loop-envelope.flight ≡ [] = c.in_default.ensures.none in
     valid_at g.P.Phase.holds p (g.P.Phase.problem c.args.phase cells) cells flight [] at.same none at.valid
 
@@ -71,7 +72,7 @@ settled-requires-clause-bounded g c =
     let p = g.P.Phase.problem c.args.phase first in
     let cells = c.loop-envelope.cells.items in
     let flight = c.loop-envelope.flight in
-    let at = known g c.args.phase c.args.cells.items c.loop-envelope.cells.items c.loop-envelope.flight c.loop-envelope.handled c.requires c.loop-envelope.invariant in
+    let at = known g c.args.phase c.args.cells.items c.loop-envelope.cells.items c.loop-envelope.flight c.loop-envelope.handled c.requires.begins c.loop-envelope.invariant in
     let bound : g.P.Phase.start_weight (g.P.Phase.problem c.args.phase cells) ≡ g.P.Phase.start_weight p = ap g.P.Phase.start_weight at.same in
     omega (arith, bound, at.light)
 
@@ -81,7 +82,7 @@ returns-clause-problem g c =
     let p = g.P.Phase.problem c.args.phase first in
     let cells = c.loop-envelope.cells.items in
     let flight = c.loop-envelope.flight in
-    let at = known g c.args.phase c.args.cells.items c.loop-envelope.cells.items c.loop-envelope.flight c.loop-envelope.handled c.requires c.loop-envelope.invariant in
+    let at = known g c.args.phase c.args.cells.items c.loop-envelope.cells.items c.loop-envelope.flight c.loop-envelope.handled c.requires.begins c.loop-envelope.invariant in
     ◌∙◌ {b = g.P.Phase.problem c.args.phase cells} c.settled.ensures.problem at.same
 
 pub returns-clause-plain_run : goal.returns-clause-plain_run
@@ -99,7 +100,7 @@ returns-clause-holds g c =
     let p = g.P.Phase.problem c.args.phase first in
     let cells = c.loop-envelope.cells.items in
     let flight = c.loop-envelope.flight in
-    let at = known g c.args.phase c.args.cells.items c.loop-envelope.cells.items c.loop-envelope.flight c.loop-envelope.handled c.requires c.loop-envelope.invariant in
+    let at = known g c.args.phase c.args.cells.items c.loop-envelope.cells.items c.loop-envelope.flight c.loop-envelope.handled c.requires.begins c.loop-envelope.invariant in
     let none : c.loop-envelope.flight ≡ [] = c.in_default.ensures.none in
     let here = subst (λ xs. g.P.Phase.holds p cells xs) none at.valid in
     subst (λ xs. g.P.Phase.holds p xs []) (sym c.settled.ensures.cells) here
@@ -121,5 +122,5 @@ returns-clause-bounded g c =
     let p = g.P.Phase.problem c.args.phase first in
     let cells = c.loop-envelope.cells.items in
     let flight = c.loop-envelope.flight in
-    let at = known g c.args.phase c.args.cells.items c.loop-envelope.cells.items c.loop-envelope.flight c.loop-envelope.handled c.requires c.loop-envelope.invariant in
+    let at = known g c.args.phase c.args.cells.items c.loop-envelope.cells.items c.loop-envelope.flight c.loop-envelope.handled c.requires.begins c.loop-envelope.invariant in
     omega (arith, c.settled.ensures.handled, at.light)

@@ -1,7 +1,8 @@
+-- Handling the first envelope is an event of the core machine.
 use Rattle.std.proofs.Common.{arith, ◌≡◌, ◌<◌, ◌∷◌, ◌++◌, reverse, length, refl}
 use Rattle.std.specs.Prelude.{Some, slice_get}
 use Rattle.std.proofs.lemmas.Option.{slice_get_read}
-use Rattle.phase_core.proofs.Steps.{first_within, Stands-first, Handles-first}
+use Rattle.phase_core.proofs.Events.{first_within, Stands-first, Handles-first}
 use Rattle.phase_core.proofs.Flights.{sent_behind}
 use Rattle.phase_core.proofs.delivery.handle_next.Goals as goal
 
@@ -19,7 +20,7 @@ handle-requires g c =
     let rest = c.args.flight.now in
     let within : e.to < length cells = first_within (g.met.P.Phase.addressed (g.P.Phase.problem c.args.phase.now cells)) cells e rest c.requires in
     let here : slice_get cells e.to ≡ Some c.index_mut-cell.result.now = slice_get_read cells (length cells) e.to c.index_mut-cell.result.now refl within c.index_mut-cell.ensures.value in
-    (cells, e ∷ rest, Stands-first cells e rest c.index_mut-cell.result.now here c.requires)
+    record { stands = (cells, e ∷ rest, Stands-first cells e rest c.index_mut-cell.result.now here c.requires) }
 
 pub returns : goal.returns
 returns g c =

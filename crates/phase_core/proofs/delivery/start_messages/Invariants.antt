@@ -1,3 +1,4 @@
+-- The start messages so far, and room for the others.
 use Rattle.std.proofs.Common.{◌≡◌, ◌+◌, ◌≤◌}
 use Rattle.phase_core.specs.Machine.{start_flight}
 use Rattle.phase_core.proofs.delivery.start_messages.Given as goal

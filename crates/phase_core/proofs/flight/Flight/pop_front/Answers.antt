@@ -1,3 +1,4 @@
+-- What is taken is the first envelope of the flight.
 use Rattle.std.proofs.Common.{◌≡◌, [], ◌++◌, reverse, arith, sym, ◌∙◌}
 use Rattle.std.proofs.lemmas.Bool.{eqb-true}
 use Rattle.std.proofs.lemmas.List.{nil_from_length}

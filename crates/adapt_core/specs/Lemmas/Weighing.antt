@@ -14,8 +14,8 @@ use Rattle.adapt_core.specs.Cells.{LeafState, AdaptProblem}
 use Rattle.adapt_core.specs.React.{asked, tells, raised, opened, adapt_react}
 use Rattle.adapt_core.specs.Problem.{mesh_of, wishes_of}
 use Rattle.adapt_core.specs.Holds.{is_start, is_level, AdaptHolds, degree, cell_weight, levels_in, adapt_weight}
-use Rattle.adapt_core.specs.Leaves.{get_place}
-use Rattle.adapt_core.specs.Keeping.{start_waits, step_of}
+use Rattle.adapt_core.specs.Lemmas.Leaves.{get_place}
+use Rattle.adapt_core.specs.Lemmas.Keeping.{start_waits, handling_of}
 
 -- what an envelope adds to the count of the level messages
 abbrev pub level_any : Envelope AdaptMsg → ℕ
@@ -66,7 +66,7 @@ pub lowers : (p : AdaptProblem) (cells : List LeafState) (e : Envelope AdaptMsg)
 lowers p cells e rest c holds here =
     let r = adapt_react p e.to c e.msg in
     let valid = holds.problem in
-    let moves = step_of p cells e rest c holds here in
+    let moves = handling_of p cells e rest c holds here in
     let most : r.cell.level ≤ slice_index (greatest_levels p.grid (mesh_of p)) e.to = moves.high (greatest_levels p.grid (mesh_of p)) (greatest_levels-IsSolution p.grid (mesh_of p) (wishes_of p) valid.domain valid.mesh valid.balanced) in
     let greatest = greatest_at p.grid (mesh_of p) e.to c.part.place (get_place p cells valid holds.parts e.to c here) in
     let within = slice_get_within cells e.to c here in

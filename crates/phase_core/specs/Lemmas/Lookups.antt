@@ -36,6 +36,17 @@ get-set_cases xs i j x y z here there =
       | inr n ↦ inr (n, sym (get-set_other xs i j y n) ∙ there)
     ]
 
+-- a write that keeps an element's image leaves the list of images as it was: what a cell keeps, a phase's problem lists
+pub map-slice_set_same : {C K : Type 0} (part : C → K) (cells : List C) (at : ℕ) (cell new : C) → slice_get cells at ≡ Some cell → part new ≡ part cell → map part (slice_set cells at new) ≡ map part cells
+map-slice_set_same part [] at cell new here same = refl
+map-slice_set_same {C} {K} part (c ∷ cells) zero cell new here same =
+    let is : c ≡ cell = cc in
+    let put : K → List K = λ k. k ∷ map part cells in
+    ap put (same ∙ ap part (sym is))
+map-slice_set_same {C} {K} part (c ∷ cells) (suc at) cell new here same =
+    let put : List K → List K = λ ks. part c ∷ ks in
+    ap put (map-slice_set_same part cells at cell new here same)
+
 pub Contains-get : {A : Type 0} (xs : List A) (x : A) → Contains xs x → (k : ℕ) × (slice_get xs k ≡ Some x)
 Contains-get xs x h = (h.0, slice_get-get_or xs h.0 x h.1 ∙ ap Some h.2)
 

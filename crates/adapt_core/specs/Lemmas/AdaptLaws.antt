@@ -7,7 +7,7 @@ use Rattle.std.proofs.lemmas.List.Sorted.{All-permutation, Contains-permutation,
 use Rattle.std.proofs.lemmas.List.Sums.{sum_by-le, get_or-le-sum_by}
 use Rattle.std.proofs.lemmas.Option.{slice_get_cases, slice_get_within, slice_get-get_or}
 use Rattle.phase_core.specs.declared.envelope.Envelope.{Envelope}
-use Rattle.phase_core.specs.Parts.{map-slice_set_same}
+use Rattle.phase_core.specs.Lemmas.Lookups.{map-slice_set_same}
 use Rattle.block_index.specs.Places.{Grid}
 use Rattle.leaf_set.proofs.LeafCounts.{length-IsMesh_limit}
 use Rattle.adapt_core.specs.declared.adapt_msg.AdaptMsg.{AdaptMsg}
@@ -16,11 +16,11 @@ use Rattle.adapt_core.specs.Cells.{LeafPart, LeafState, AdaptProblem}
 use Rattle.adapt_core.specs.React.{adapt_react}
 use Rattle.adapt_core.specs.Problem.{mesh_of, problem_of, IsAdaptProblem}
 use Rattle.adapt_core.specs.Holds.{is_start, starts_to, starts_due, IsTold, AdaptHolds, degree, adapt_start_weight}
-use Rattle.adapt_core.specs.Leaves.{length_cells}
-use Rattle.adapt_core.specs.Keeping.{start_at}
-pub use Rattle.adapt_core.specs.Keeping.{keeps}
-pub use Rattle.adapt_core.specs.Weighing.{lowers, weighs_in_any_order}
-pub use Rattle.adapt_core.specs.Beginning.{start_holds, start_weighs}
+use Rattle.adapt_core.specs.Lemmas.Leaves.{length_cells}
+use Rattle.adapt_core.specs.Lemmas.Keeping.{start_at}
+pub use Rattle.adapt_core.specs.Lemmas.Keeping.{keeps}
+pub use Rattle.adapt_core.specs.Lemmas.Weighing.{lowers, weighs_in_any_order}
+pub use Rattle.adapt_core.specs.Lemmas.Beginning.{start_holds, start_weighs}
 
 pub holds_in_any_order : (p : AdaptProblem) (cells : List LeafState) (flight other : List (Envelope AdaptMsg)) → IsPermutation flight other → AdaptHolds p cells flight → AdaptHolds p cells other
 holds_in_any_order p cells flight other moved holds =

@@ -6,7 +6,7 @@ use Rattle.std.proofs.lemmas.Option.{same_Some}
 use Rattle.std.proofs.lemmas.List.Elements.{All-append, All-tail, All-head, All-nil, All-map, All-weaker, Contains-get_or, Contains-append_left, Contains-append_right}
 use Rattle.std.proofs.lemmas.List.Sums.{sum_by-append, sum_by-cons}
 use Rattle.phase_core.specs.declared.envelope.Envelope.{Envelope}
-use Rattle.phase_core.specs.Parts.{map-slice_set_same}
+use Rattle.phase_core.specs.Lemmas.Lookups.{map-slice_set_same}
 use Rattle.block_index.specs.Touching.{Touches}
 use Rattle.leaf_set.specs.LevelRules.{IsSolution}
 use Rattle.adapt_core.specs.declared.adapt_msg.AdaptMsg.{AdaptMsg}
@@ -15,9 +15,9 @@ use Rattle.adapt_core.specs.Cells.{LeafPart, LeafState, AdaptProblem}
 use Rattle.adapt_core.specs.React.{tells, adapt_react}
 use Rattle.adapt_core.specs.Problem.{mesh_of, wishes_of}
 use Rattle.adapt_core.specs.Holds.{is_start, starts_to, starts_due, HasAsked, IsTold, AdaptHolds}
-use Rattle.adapt_core.specs.Lookups.{get-set_same, get-set_other, get-set_cases, Contains-map, Contains-cons_cases}
-use Rattle.adapt_core.specs.Leaves.{part_at, neighbour_touches, touching_listed}
-use Rattle.adapt_core.specs.Steps.{Takes, IsStep, step}
+use Rattle.phase_core.specs.Lemmas.Lookups.{get-set_same, get-set_other, get-set_cases, Contains-map, Contains-cons_cases}
+use Rattle.adapt_core.specs.Lemmas.Leaves.{part_at, neighbour_touches, touching_listed}
+use Rattle.adapt_core.specs.Lemmas.Handlings.{Takes, IsHandling, handling}
 
 -- what an envelope adds to the count of the starts to a position
 abbrev pub start_at : ℕ → Envelope AdaptMsg → ℕ
@@ -60,7 +60,7 @@ start_waits p cells e rest c holds here is = go c.started refl
         absurd (omega (arith, due, none, one, starts_to-head e.to e rest))
 
 module _ (p : AdaptProblem) (cells : List LeafState) (e : Envelope AdaptMsg) (rest : List (Envelope AdaptMsg)) (c new : LeafState) (sent : List (Envelope AdaptMsg))
-    (holds : AdaptHolds p cells (e ∷ rest)) (here : slice_get cells e.to ≡ Some c) (moves : IsStep p cells e.to e.msg c new sent) where
+    (holds : AdaptHolds p cells (e ∷ rest)) (here : slice_get cells e.to ≡ Some c) (moves : IsHandling p cells e.to e.msg c new sent) where
   parts_stay : map (λ cell. cell.part) (slice_set cells e.to new) ≡ p.parts
   parts_stay = map-slice_set_same (λ (x : LeafState). x.part) cells e.to c new here moves.part ∙ holds.parts
 
@@ -239,8 +239,8 @@ module _ (p : AdaptProblem) (cells : List LeafState) (e : Envelope AdaptMsg) (re
             ]
       ]
 
-  pub step_keeps : AdaptHolds p (slice_set cells e.to new) (rest ++ sent)
-  step_keeps =
+  pub handling_keeps : AdaptHolds p (slice_set cells e.to new) (rest ++ sent)
+  handling_keeps =
       record {
         problem = holds.problem;
         parts = parts_stay;
@@ -252,10 +252,10 @@ module _ (p : AdaptProblem) (cells : List LeafState) (e : Envelope AdaptMsg) (re
         told = told_all;
       }
 
-pub step_of : (p : AdaptProblem) (cells : List LeafState) (e : Envelope AdaptMsg) (rest : List (Envelope AdaptMsg)) (c : LeafState) → AdaptHolds p cells (e ∷ rest) → slice_get cells e.to ≡ Some c → IsStep p cells e.to e.msg c (adapt_react p e.to c e.msg).cell (adapt_react p e.to c e.msg).sent
-step_of p cells e rest c holds here =
-    step p cells holds.problem holds.parts holds.high e.to c here e.msg (start_waits p cells e rest c holds here) (holds.opening e.to c here) (All-head (λ x. IsTold p cells x.to x.msg) e rest holds.messages)
+pub handling_of : (p : AdaptProblem) (cells : List LeafState) (e : Envelope AdaptMsg) (rest : List (Envelope AdaptMsg)) (c : LeafState) → AdaptHolds p cells (e ∷ rest) → slice_get cells e.to ≡ Some c → IsHandling p cells e.to e.msg c (adapt_react p e.to c e.msg).cell (adapt_react p e.to c e.msg).sent
+handling_of p cells e rest c holds here =
+    handling p cells holds.problem holds.parts holds.high e.to c here e.msg (start_waits p cells e rest c holds here) (holds.opening e.to c here) (All-head (λ x. IsTold p cells x.to x.msg) e rest holds.messages)
 
 pub keeps : (p : AdaptProblem) (cells : List LeafState) (e : Envelope AdaptMsg) (rest : List (Envelope AdaptMsg)) (c : LeafState) → AdaptHolds p cells (e ∷ rest) → slice_get cells e.to ≡ Some c → AdaptHolds p (slice_set cells e.to (adapt_react p e.to c e.msg).cell) (rest ++ (adapt_react p e.to c e.msg).sent)
 keeps p cells e rest c holds here =
-    step_keeps p cells e rest c (adapt_react p e.to c e.msg).cell (adapt_react p e.to c e.msg).sent holds here (step_of p cells e rest c holds here)
+    handling_keeps p cells e rest c (adapt_react p e.to c e.msg).cell (adapt_react p e.to c e.msg).sent holds here (handling_of p cells e rest c holds here)

@@ -7,7 +7,7 @@ use Rattle.block_index.specs.Places.{Cube}
 use Rattle.block_index.specs.Touching.{Touches}
 use Rattle.adapt_core.specs.Cells.{LeafPart, LeafState, AdaptProblem}
 use Rattle.adapt_core.specs.Problem.{mesh_of, wishes_of, openings_of, IsPartAt, IsAdaptProblem}
-use Rattle.adapt_core.specs.Lookups.{get-map, get-map_back}
+use Rattle.phase_core.specs.Lemmas.Lookups.{get-map, get-map_back}
 
 module _ (p : AdaptProblem) (cells : List LeafState) (valid : IsAdaptProblem p) (parts : map (λ cell. cell.part) cells ≡ p.parts) where
   pub get_part : (i : ℕ) (c : LeafState) → slice_get cells i ≡ Some c → slice_get p.parts i ≡ Some c.part

@@ -8,7 +8,7 @@ use Rattle.std.proofs.lemmas.List.Sums.{sum_by-append, sum_by-cons}
 use Rattle.std.proofs.lemmas.Option.{slice_get_cases}
 use Rattle.phase_core.specs.declared.envelope.Envelope.{Envelope}
 use Rattle.phase_core.specs.Machine.{start_flight}
-use Rattle.phase_core.specs.Starts.{start_flight-suc}
+use Rattle.phase_core.specs.Lemmas.Starts.{start_flight-suc}
 use Rattle.leaf_set.specs.LevelRules.{IsSolution}
 use Rattle.adapt_core.specs.declared.adapt_msg.AdaptMsg.{AdaptMsg}
 use Rattle.adapt_core.specs.declared.adapt_msg.AdaptMsg.TheVariants.{Start}
@@ -16,9 +16,9 @@ use Rattle.adapt_core.specs.Cells.{LeafPart, LeafState, AdaptProblem}
 use Rattle.adapt_core.specs.React.{adapt_start}
 use Rattle.adapt_core.specs.Problem.{mesh_of, wishes_of, IsAdaptProblem, AdaptBegins, unopened}
 use Rattle.adapt_core.specs.Holds.{starts_to, starts_due, IsTold, AdaptHolds, degree, cell_weight, levels_in, adapt_weight, adapt_start_weight, touching_pairs}
-use Rattle.adapt_core.specs.Lookups.{get-map, get-map_back}
-use Rattle.adapt_core.specs.Keeping.{start_at}
-use Rattle.adapt_core.specs.Weighing.{level_any}
+use Rattle.phase_core.specs.Lemmas.Lookups.{get-map, get-map_back}
+use Rattle.adapt_core.specs.Lemmas.Keeping.{start_at}
+use Rattle.adapt_core.specs.Lemmas.Weighing.{level_any}
 
 parts-unopened : (parts : List LeafPart) → map (λ (c : LeafState). c.part) (map unopened parts) ≡ parts
 parts-unopened [] = refl
