@@ -10,7 +10,7 @@ use Rattle.adapt_core.specs.Problem.{AdaptBegins}
 use Rattle.adapt_core.specs.Holds.{AdaptHolds, adapt_weight, adapt_start_weight}
 use Rattle.adapt_core.specs.Lemmas.AdaptLaws.{keeps, lowers, holds_in_any_order, weighs_in_any_order, addressed, start_holds, start_weighs}
 
-adapt_laws : (p : AdaptProblem) → Laws (adapt_react p) (AdaptHolds p) (adapt_weight p)
+pub adapt_laws : (p : AdaptProblem) → Laws (adapt_react p) (AdaptHolds p) (adapt_weight p)
 adapt_laws p = record { keeps = keeps p; lowers = lowers p; holds_in_any_order = holds_in_any_order p; weighs_in_any_order = weighs_in_any_order p; addressed = addressed p }
 
 module _ (p : AdaptProblem) (cells : List LeafState) (t : CoreState LeafState AdaptMsg) (events : List Event) (begins : AdaptBegins p cells) (runs : Delivers (adapt_react p) (start_state adapt_start cells) events t) where

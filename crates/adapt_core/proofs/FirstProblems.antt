@@ -11,19 +11,19 @@ use Rattle.leaf_set.specs.LevelRules.{wished_level}
 use Rattle.leaf_set.specs.Opening.{IsOpening}
 use Rattle.leaf_set.proofs.Leaves.{find_leaf}
 use Rattle.leaf_set.proofs.Decisions.{each_below_or}
-use Rattle.sibling_rule.specs.OwnLevel.{IsLone, OpensAt}
+use Rattle.sibling_rule.specs.Lemmas.OwnLevel.{IsLone, OpensAt}
 use Rattle.sibling_rule.proofs.OpeningSteps.{IsOpening-AreOpening}
 use Rattle.phase_core.specs.Machine.{CoreState, RunsPlainly, start_state}
-use Rattle.phase_core.proofs.Events.{Laws}
 use Rattle.phase_core.proofs.Deliveries.{RunsPlainly-reached}
 use Rattle.adapt_core.specs.declared.adapt_msg.AdaptMsg.{AdaptMsg}
 use Rattle.adapt_core.specs.Cells.{LeafPart, LeafState, AdaptProblem}
 use Rattle.adapt_core.specs.React.{adapt_react, adapt_start}
 use Rattle.adapt_core.specs.Problem.{mesh_of, wishes_of, siblings_among, IsAdaptProblem, AdaptBegins, unopened}
-use Rattle.adapt_core.specs.Holds.{AdaptHolds, adapt_weight}
-use Rattle.adapt_core.specs.Lemmas.AdaptLaws.{keeps, lowers, holds_in_any_order, weighs_in_any_order, addressed, start_holds}
+use Rattle.adapt_core.specs.Holds.{adapt_weight}
+use Rattle.adapt_core.specs.Lemmas.AdaptLaws.{start_holds}
 use Rattle.phase_core.specs.Lemmas.ListsByPlaces.{list_exists}
 use Rattle.adapt_core.specs.Lemmas.FirstCells.{IsPartOf}
+use Rattle.adapt_core.proofs.EveryRun.{adapt_laws}
 use Rattle.adapt_core.proofs.PartsOfLeaves.{IsAdaptProblem-parts, parts_mesh, parts_wishes}
 use Rattle.leaf_set.specs.Tiling.{IsTiling}
 use Rattle.adapt_core.proofs.TouchingLists.{touching_list}
@@ -150,6 +150,5 @@ begins_exists p is = record { problem = is; begun = refl }
 pub plain_run_exists : (p : AdaptProblem) (cells : List LeafState) → AdaptBegins p cells → (count : ℕ) × (t : CoreState LeafState AdaptMsg) × RunsPlainly (adapt_react p) (start_state adapt_start cells) count t
 plain_run_exists p cells begins =
     let s = start_state adapt_start cells in
-    let laws : Laws (adapt_react p) (AdaptHolds p) (adapt_weight p) = record { keeps = keeps p; lowers = lowers p; holds_in_any_order = holds_in_any_order p; weighs_in_any_order = weighs_in_any_order p; addressed = addressed p } in
-    let run = RunsPlainly-reached laws (adapt_weight p s.cells s.flight) s (start_holds p cells begins) (omega arith) in
+    let run = RunsPlainly-reached (adapt_laws p) (adapt_weight p s.cells s.flight) s (start_holds p cells begins) (omega arith) in
     (run.0, run.1, run.2)

@@ -1,3 +1,5 @@
+//! The adapt phase as a phase over messages: its beginning, its handling, and the levels at its end.
+
 ghost use Rattle.std.specs.Prelude.{◌≡◌, IfOk, length};
 ghost use Rattle.leaf_set.specs.LevelRules.{IsLeast};
 ghost use Rattle.adapt_core.specs.Problem.{mesh_of, wishes_of, problem_of, AdaptBegins};

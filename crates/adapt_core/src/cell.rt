@@ -1,3 +1,5 @@
+//! A leaf of the adapt phase.
+
 ghost use Rattle.std.specs.Prelude.{◌≡◌, true, ◌++◌, OnOk, OnErr};
 ghost use Rattle.adapt_core.specs.React.{raised, tells};
 ghost use Rattle.adapt_core.specs.Problem.{unopened};

@@ -1,3 +1,5 @@
+//! The cells with which a phase over a leaf set begins.
+
 ghost use Rattle.std.specs.Prelude.{◌≡◌, ◌^◌, ◌<◌, ◌≤◌, All, IfOk, length};
 ghost use Rattle.adapt_core.specs.Lemmas.FirstCells.{AreFirstCells, IsFirstCell};
 ghost use Rattle.adapt_core.specs.Problem.{siblings_among};

@@ -1,3 +1,5 @@
+//! Laws of the adapt phase, in any order of delivery.
+
 ghost use Rattle.std.specs.Prelude.{◌≡◌, ℕ, ◌+◌, ◌*◌, ◌^◌, ◌≤◌, List, [], length, map};
 ghost use Rattle.phase_core.specs.Machine.{CoreState, Event, IsQuiet, Delivers, start_state};
 ghost use Rattle.leaf_set.specs.LevelRules.{IsLeast};

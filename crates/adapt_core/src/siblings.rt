@@ -1,3 +1,5 @@
+//! The test for siblings.
+
 ghost use Rattle.std.specs.Prelude.{◌≡◌};
 ghost use Rattle.adapt_core.specs.Problem.{are_siblings};
 

@@ -1,5 +1,5 @@
 -- The adapt phase keeps the laws of phases.
-use Rattle.std.proofs.Common.{◌≡◌, ℕ, ◌+◌, ◌-◌, ◌*◌, ◌^◌, ◌<◌, ◌≤◌, true, cond, List, Some, length, get_or, refl, ap, ◌∙◌, subst, arith, inl, inr, mul-le-mul_right}
+use Rattle.std.proofs.Common.{◌≡◌, ℕ, ◌*◌, ◌^◌, ◌<◌, ◌≤◌, true, cond, List, Some, length, get_or, refl, ap, ◌∙◌, subst, arith, inl, inr}
 use Rattle.std.specs.Prelude.{All, IsPermutation, slice_get, slice_set, ◌&&◌}
 use Rattle.std.proofs.lemmas.Bool.{eq-eqb}
 use Rattle.std.proofs.lemmas.List.{length-map}
@@ -15,8 +15,9 @@ use Rattle.adapt_core.specs.declared.adapt_msg.AdaptMsg.TheVariants.{Start, Leve
 use Rattle.adapt_core.specs.Cells.{LeafPart, LeafState, AdaptProblem}
 use Rattle.adapt_core.specs.React.{adapt_react}
 use Rattle.adapt_core.specs.Problem.{mesh_of, problem_of, IsAdaptProblem}
-use Rattle.adapt_core.specs.Holds.{is_start, starts_to, starts_due, IsTold, AdaptHolds, degree, adapt_start_weight}
+use Rattle.adapt_core.specs.Holds.{is_start, starts_to, starts_due, IsTold, AdaptHolds, degree, adapt_start_weight, touching_pairs}
 use Rattle.adapt_core.specs.Lemmas.Leaves.{length_cells}
+use Rattle.adapt_core.specs.Lemmas.Beginning.{start_weight_most}
 use Rattle.adapt_core.specs.Lemmas.Keeping.{start_at}
 pub use Rattle.adapt_core.specs.Lemmas.Keeping.{keeps}
 pub use Rattle.adapt_core.specs.Lemmas.Weighing.{lowers, weighs_in_any_order}
@@ -80,14 +81,9 @@ addressed p cells flight holds k d within = go (get_or flight k d).msg refl
 -- a leaf has at most 56 that touch it, and a mesh has at most 2 ^ 30 leaves
 pub start_weight_few : (p : AdaptProblem) → IsAdaptProblem p → adapt_start_weight p ≤ 2 ^ 38
 start_weight_few p valid =
-    let one : LeafPart → ℕ = λ x. 1 + degree x + (x.place.level + 1 - (x.place.level - 1)) * degree x in
-    let each : All (λ x. one x ≤ 169) p.parts = λ k d within.
-    let part : LeafPart = get_or p.parts k d in
-    let few : degree part ≤ 56 = (valid.parts k part (slice_get-get_or p.parts k d within)).touching.few in
-    let two : (part.place.level + 1 - (part.place.level - 1)) * degree part ≤ 2 * degree part = mul-le-mul_right (degree part) (let less : part.place.level + 1 - (part.place.level - 1) ≤ 2 = omega arith in less) in
-    omega (arith, few, two) in
-    let all : adapt_start_weight p ≤ length p.parts * 169 = sum_by-le one 169 p.parts each in
-    omega (arith, all, few_leaves p valid)
+    let few : All (λ part. degree part ≤ 56) p.parts = λ k d within. (valid.parts k (get_or p.parts k d) (slice_get-get_or p.parts k d within)).touching.few in
+    let pairs : touching_pairs p ≤ length p.parts * 56 = sum_by-le degree 56 p.parts few in
+    omega (arith, start_weight_most p, pairs, few_leaves p valid)
 
 pub start_weight_fits : (p : AdaptProblem) (cells : List LeafState) (flight : List (Envelope AdaptMsg)) → AdaptHolds p cells flight → adapt_start_weight p < 2 ^ 62
 start_weight_fits p cells flight holds = omega (arith, start_weight_few p holds.problem)

@@ -1,3 +1,4 @@
+-- The siblings among the leaves so far.
 use Rattle.std.proofs.Common.{◌≡◌, take}
 use Rattle.adapt_core.specs.Problem.{siblings_among}
 use Rattle.adapt_core.proofs.first_cells.siblings_among.Given as goal

@@ -1,3 +1,4 @@
+-- From the laws of the phase and its levels at rest.
 use Rattle.std.proofs.Common.{subst, arith}
 use Rattle.std.proofs.lemmas.List.{length-map}
 use Rattle.adapt_core.specs.Cells.{LeafPart}

@@ -1,3 +1,4 @@
+-- What was told so far, and room for the rest.
 use Rattle.std.proofs.Common.{◌≡◌, ◌+◌, ◌≤◌, ◌++◌, map, take}
 use Rattle.adapt_core.specs.declared.adapt_msg.AdaptMsg.TheVariants.{Level}
 use Rattle.adapt_core.specs.Holds.{degree}
