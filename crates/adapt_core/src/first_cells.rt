@@ -34,7 +34,7 @@ pub(crate) fn first_cells(
 }
 
 /// The cell of the leaf at position `at` before anything is handled.
-pub(crate) fn first_cell(
+fn first_cell(
     alloc: Global,
     set: &LeafSet,
     wishes: &[Wish],

@@ -2,7 +2,7 @@
 //! to the leaves that touch it, and rises to what their levels ask of it. In any order of delivery the phase comes to
 //! rest, and then the levels are the least that meet the level rules.
 //! Cells and messages stand in specs/Cells.antt and specs/React.antt, the problem in specs/Problem.antt, and what
-//! stands in every state in specs/Holds.antt.
+//! stands in every state in specs/Holds.antt. specs/Lemmas/ proves the laws of the phase, which its impl cites.
 #![tactic(auto)]
 
 mod adapt;

@@ -6,7 +6,7 @@ use Rattle.std.proofs.lemmas.Option.{get_or_from_slice_get}
 use Rattle.block_index.specs.Places.{Cube}
 use Rattle.block_index.specs.Touching.{Touches}
 use Rattle.adapt_core.specs.Cells.{LeafPart, LeafState, AdaptProblem}
-use Rattle.adapt_core.specs.Problem.{mesh_of, wishes_of, openings_of, IsPartAt, IsAdaptProblem}
+use Rattle.adapt_core.specs.Problem.{mesh_of, openings_of, IsPartAt, IsAdaptProblem}
 use Rattle.phase_core.specs.Lemmas.Lookups.{get-map, get-map_back}
 
 module _ (p : AdaptProblem) (cells : List LeafState) (valid : IsAdaptProblem p) (parts : map (λ cell. cell.part) cells ≡ p.parts) where
@@ -18,9 +18,6 @@ module _ (p : AdaptProblem) (cells : List LeafState) (valid : IsAdaptProblem p) 
 
   pub get_place : (i : ℕ) (c : LeafState) → slice_get cells i ≡ Some c → slice_get (mesh_of p) i ≡ Some c.part.place
   get_place i c h = get-map (λ (x : LeafPart). x.place) p.parts i c.part (get_part i c h)
-
-  pub get_wish : (i : ℕ) (c : LeafState) → slice_get cells i ≡ Some c → slice_get (wishes_of p) i ≡ Some c.part.wish
-  get_wish i c h = get-map (λ (x : LeafPart). x.wish) p.parts i c.part (get_part i c h)
 
   pub opening_at : (i : ℕ) (c : LeafState) → slice_get cells i ≡ Some c → slice_index (openings_of p) i ≡ c.part.opening
   opening_at i c h = get_or_from_slice_get (openings_of p) i c.part.opening 0 (get-map (λ (x : LeafPart). x.opening) p.parts i c.part (get_part i c h))

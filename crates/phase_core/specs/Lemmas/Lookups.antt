@@ -1,9 +1,8 @@
 -- Looking up in lists: after a map, after a write, and of what a list contains.
-use Rattle.std.proofs.Common.{◌≡◌, ℕ, zero, suc, Bool, true, List, [], ◌∷◌, Some, map, refl, sym, ap, ◌∙◌, subst, ◌⊎◌, inl, inr}
+use Rattle.std.proofs.Common.{◌≡◌, ℕ, zero, suc, List, [], ◌∷◌, Some, map, refl, sym, ap, ◌∙◌, subst, ◌⊎◌, inl, inr}
 use Rattle.std.specs.Prelude.{Contains, slice_get, slice_set}
-use Rattle.std.specs.List.{list_any}
 use Rattle.std.specs.Option.{option_map}
-use Rattle.std.proofs.lemmas.Bool.{cases_eq, or_cases, false≢true}
+use Rattle.std.proofs.lemmas.Bool.{cases_eq}
 use Rattle.std.proofs.lemmas.Option.{none-some, same_Some, slice_get-map, slice_get-get_or, slice_get_within, get_or_from_slice_get}
 
 pub get-map : {A B : Type 0} (f : A → B) (xs : List A) (i : ℕ) (x : A) → slice_get xs i ≡ Some x → slice_get (map f xs) i ≡ Some (f x)
@@ -70,15 +69,3 @@ Contains-cons_cases x xs y h = go (Contains-get (x ∷ xs) y h).0 (Contains-get 
     go : (k : ℕ) → slice_get (x ∷ xs) k ≡ Some y → (x ≡ y) ⊎ Contains xs y
     go zero e = inl (same_Some x y e)
     go (suc k) e = inr (Contains-at xs k y e)
-
--- an element that passes a test that one passes
-pub list_any-found : {A : Type 0} (test : A → Bool) (xs : List A) → list_any test xs ≡ true → (x : A) × Contains xs x × (test x ≡ true)
-list_any-found {A} test xs h = let f = go xs h in (f.1, Contains-at xs f.0 f.1 f.2, f.3)
-  where
-    go : (ys : List A) → list_any test ys ≡ true → (k : ℕ) × (x : A) × (slice_get ys k ≡ Some x) × (test x ≡ true)
-    go [] e = absurd (false≢true e)
-    go (y ∷ ys) e =
-        elim (or_cases (test y) (list_any test ys) e) [
-          | inl now ↦ (zero, y, refl, now)
-          | inr later ↦ let f = go ys later in (suc f.0, f.1, f.2, f.3)
-        ]
