@@ -2,7 +2,7 @@
 use Rattle.std.proofs.Common.{◌≡◌, ℕ, ◌+◌, ◌≤◌, List, [], ◌∷◌, ◌++◌, length, refl, ap, sym, ◌∙◌, subst, arith, replicate}
 use Rattle.std.proofs.lemmas.List.{replicate_more, length-replicate}
 use Rattle.phase_core.specs.declared.envelope.Envelope.{Envelope}
-use Rattle.phase_core.specs.Machine.{Reaction, CoreState, Event, Handle, Handles, Delivers, RunsPlainly, start_flight}
+use Rattle.phase_core.specs.Machine.{Reaction, CoreState, Event, Handle, Handles, Delivers, RunsPlainly, start_flight, start_state}
 use Rattle.phase_core.specs.PhaseLaws.{KeepsParts}
 use Rattle.phase_core.specs.Lemmas.Starts.{start_flight-more}
 use Rattle.phase_core.proofs.Events.{Laws, same_state}
@@ -31,6 +31,11 @@ Handles-at {Q} {C} {M} react p q cells flight other t same is h =
 pub plain_more : {C M : Type 0} (react : ℕ → C → M → Reaction C M) (n : ℕ) (s t u : CoreState C M) → Delivers react s (replicate n (Handle 0)) t → Handles react t 0 u → Delivers react s (replicate (n + 1) (Handle 0)) u
 plain_more {C} {M} react n s t u r h =
     subst (λ (events : List Event). Delivers react s events u) (replicate_more n (Handle 0)) (Delivers-append react (replicate n (Handle 0)) (Handle 0 ∷ []) s t u r (u, h, refl))
+
+-- the state at which the start messages are in flight
+pub begun : {C M : Type 0} (start : ℕ → M) (cells : List C) (flight : List (Envelope M)) (count : ℕ) → flight ≡ start_flight start count → count ≡ length cells → start_state start cells ≡ record { cells = cells; flight = flight }
+begun {C} {M} start cells flight count is all =
+    same_state (start_state start cells) (record { cells = cells; flight = flight }) refl (sym (is ∙ ap (λ n. start_flight start n) all))
 
 -- where the plain run has come after n events from a start of this weight
 pub record Reached {Q C M : Type 0} (holds : List C → List (Envelope M) → Type 0) (weight : List C → List (Envelope M) → ℕ) (problem : List C → Q) (p : Q) (start : ℕ) (n : ℕ) (cells : List C) (flight : List (Envelope M)) : Type 0 where
