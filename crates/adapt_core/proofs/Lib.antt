@@ -1,7 +1,7 @@
+-- Lemmas about the phase: at rest, over runs, what its problem is and that there is one.
 pub mod Rest
-pub mod Runs
-pub mod Pushes
-pub mod Openings
+pub mod EveryRun
+pub mod PartsOfLeaves
 pub mod OneProblem
 pub mod TouchingLists
 pub mod FirstProblems

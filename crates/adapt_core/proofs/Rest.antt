@@ -18,9 +18,9 @@ use Rattle.adapt_core.specs.declared.adapt_msg.AdaptMsg.TheVariants.{Level}
 use Rattle.adapt_core.specs.Cells.{LeafState, AdaptProblem}
 use Rattle.adapt_core.specs.Problem.{mesh_of, wishes_of, openings_of}
 use Rattle.adapt_core.specs.Holds.{starts_due, HasAsked, AdaptHolds}
-use Rattle.adapt_core.specs.Lookups.{get-map}
-use Rattle.adapt_core.specs.Leaves.{get_cell, opening_at, length_cells}
-use Rattle.adapt_core.specs.Siblings.{AreSiblings-Touches}
+use Rattle.phase_core.specs.Lemmas.Lookups.{get-map}
+use Rattle.adapt_core.specs.Lemmas.Leaves.{get_cell, opening_at, length_cells}
+use Rattle.adapt_core.specs.Lemmas.Siblings.{AreSiblings-Touches}
 
 abbrev levels_of : List LeafState → List ℕ
 levels_of cells = map (λ c. c.level) cells

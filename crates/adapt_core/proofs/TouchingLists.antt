@@ -13,12 +13,26 @@ use Rattle.cello_neighbours.specs.Shell.{IsSpot, IsShellCube, IsLeafOver, is_inn
 use Rattle.cello_neighbours.proofs.Shells.{inner_over, touches_over}
 use Rattle.cello_neighbours.proofs.LookUps.{over_once}
 use Rattle.cello_neighbours.proofs.Gatherings.{Gathers, Gathers-none, Gathers-skip, Gathers-insert, AreTouching-Gathers}
-use Rattle.adapt_core.specs.Lookups.{Contains-at, Contains-cons_cases}
-use Rattle.adapt_core.proofs.OneProblem.{increasing-tail, increasing-above}
+use Rattle.phase_core.specs.Lemmas.Lookups.{Contains-at, Contains-cons_cases}
 
 -- ---- a list that ascends, with one element more
 
-pub Contains-more : (x : ℕ) (xs : List ℕ) (j : ℕ) → Contains xs j → Contains (x ∷ xs) j
+increasing-tail : (x : ℕ) (xs : List ℕ) → IsStrictlyIncreasing (x ∷ xs) → IsStrictlyIncreasing xs
+increasing-tail x xs up k within =
+    let next : suc k + 1 ≡ suc (k + 1) = omega arith in
+    omega (arith, up (suc k) (omega arith), ap (λ i. slice_index (x ∷ xs) i) next)
+
+-- the first is below all others
+increasing-above : (x : ℕ) (xs : List ℕ) → IsStrictlyIncreasing (x ∷ xs) → (j : ℕ) → Contains xs j → x < j
+increasing-above x [] up j h = absurd (omega (arith, h.1))
+increasing-above x (y ∷ ys) up j h =
+    let first : x < y = up zero (omega arith) in
+    elim (Contains-cons_cases y ys j h) [
+      | inl here ↦ omega (arith, first, here)
+      | inr later ↦ omega (arith, first, increasing-above y ys (increasing-tail x (y ∷ ys) up) j later)
+    ]
+
+Contains-more : (x : ℕ) (xs : List ℕ) (j : ℕ) → Contains xs j → Contains (x ∷ xs) j
 Contains-more x xs j h = (suc h.0, let lt : suc h.0 < length (x ∷ xs) = omega (arith, h.1) in lt, h.2)
 
 increasing-cons : (x : ℕ) (xs : List ℕ) → IsStrictlyIncreasing xs → ((j : ℕ) → Contains xs j → x < j) → IsStrictlyIncreasing (x ∷ xs)

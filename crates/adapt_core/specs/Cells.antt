@@ -2,16 +2,17 @@
 use Rattle.std.specs.Prelude.{ℕ, Bool, List}
 use Rattle.block_index.specs.Places.{Cube, Grid}
 use Rattle.block_index.specs.declared.wish.Wish.{Wish}
-use Rattle.adapt_core.specs.declared.neighbour.Neighbour.{Neighbour}
 
 -- what a cell keeps of the problem: the leaf's position and place, its wish, the least level that the rules about
--- the leaf alone ask (its opening level), and the leaves that touch it, ascending
+-- the leaf alone ask (its opening level), and the positions of the leaves that touch it, ascending, and of those of
+-- them that are its siblings
 pub record LeafPart : Type 0 where
   pub index : ℕ
   pub place : Cube
   pub wish : Wish
   pub opening : ℕ
-  pub neighbours : List Neighbour
+  pub neighbours : List ℕ
+  pub siblings : List ℕ
 
 -- a cell: its part of the problem, its present level, and whether it has handled its start message
 pub record LeafState : Type 0 where

@@ -6,7 +6,7 @@ use Rattle.leaf_set.specs.LevelRules.{AreSiblings, IsSolution}
 use Rattle.adapt_core.specs.declared.adapt_msg.AdaptMsg.{AdaptMsg}
 use Rattle.adapt_core.specs.declared.adapt_msg.AdaptMsg.TheVariants.{Start, Level}
 use Rattle.adapt_core.specs.Cells.{LeafPart, LeafState, AdaptProblem}
-use Rattle.adapt_core.specs.Problem.{mesh_of, wishes_of, IsAdaptProblem}
+use Rattle.adapt_core.specs.Problem.{mesh_of, wishes_of, unopened, IsAdaptProblem}
 
 abbrev pub is_start : AdaptMsg → Bool
 is_start Start = true
@@ -58,10 +58,14 @@ pub record AdaptHolds (p : AdaptProblem) (cells : List LeafState) (flight : List
 abbrev pub degree : LeafPart → ℕ
 degree part = length part.neighbours
 
+-- how many levels the cell may still rise
+abbrev pub levels_left : LeafState → ℕ
+levels_left c = c.part.place.level + 1 - c.level
+
 -- What a cell can still add: its start and the telling of it, where it hasn't started, and for each level that it
 -- may still rise a telling.
 abbrev pub cell_weight : LeafState → ℕ
-cell_weight c = cond c.started 0 (1 + degree c.part) + (c.part.place.level + 1 - c.level) * degree c.part
+cell_weight c = cond c.started 0 (1 + degree c.part) + levels_left c * degree c.part
 
 -- how many level messages are in flight
 abbrev pub levels_in : List (Envelope AdaptMsg) → ℕ
@@ -71,10 +75,9 @@ levels_in flight = count_by (λ e. is_level e.msg) flight
 abbrev pub adapt_weight : AdaptProblem → List LeafState → List (Envelope AdaptMsg) → ℕ
 adapt_weight p cells flight = sum_by cell_weight cells + levels_in flight
 
--- the same at the start
+-- the same at the start: what the cells can add before anything is handled
 abbrev pub adapt_start_weight : AdaptProblem → ℕ
-adapt_start_weight p =
-    sum_by (λ part. 1 + degree part + (part.place.level + 1 - (part.place.level - 1)) * degree part) p.parts
+adapt_start_weight p = sum_by cell_weight (map unopened p.parts)
 
 -- how many ordered pairs of leaves touch
 abbrev pub touching_pairs : AdaptProblem → ℕ

@@ -1,13 +1,6 @@
+-- Definitions that contracts cite, and lemmas that the laws of the phase cite.
 pub mod Cells
 pub mod React
 pub mod Problem
 pub mod Holds
-pub mod FirstCells
-pub mod Lookups
-pub mod Leaves
-pub mod Siblings
-pub mod Steps
-pub mod Keeping
-pub mod Weighing
-pub mod Beginning
-pub mod AdaptLaws
+pub mod Lemmas

@@ -1,20 +1,15 @@
 -- What handling a message does to a cell of the adapt phase, and what it sends.
-use Rattle.std.specs.Prelude.{ℕ, ◌-◌, ◌/◌, min, max, Bool, true, ◌&&◌, ◌==◌, nat_le, nat_lt, cond, List, [], map}
+use Rattle.std.specs.Prelude.{ℕ, ◌-◌, min, max, Bool, true, ◌&&◌, ◌==◌, nat_lt, cond, List, [], map}
 use Rattle.std.specs.List.{list_any}
 use Rattle.phase_core.specs.declared.envelope.Envelope.{Envelope}
 use Rattle.phase_core.specs.Machine.{Reaction}
-use Rattle.block_index.specs.Places.{Cube}
 use Rattle.adapt_core.specs.declared.adapt_msg.AdaptMsg.{AdaptMsg}
 use Rattle.adapt_core.specs.declared.adapt_msg.AdaptMsg.TheVariants.{Start, Level}
 use Rattle.adapt_core.specs.Cells.{LeafPart, LeafState, AdaptProblem}
 
--- whether two places of one level, below the roots, have the same parent
-abbrev pub are_siblings : Cube → Cube → Bool
-are_siblings a c = nat_le 1 a.level && (c.level == a.level) && (c.x / 2 == a.x / 2) && (c.y / 2 == a.y / 2) && (c.z / 2 == a.z / 2)
-
--- whether the leaf at position `from` is a sibling, as far as the list of touching leaves tells
+-- whether the leaf at position `from` is one of the siblings
 abbrev pub has_sibling_at : LeafPart → ℕ → Bool
-has_sibling_at part from = list_any (λ n. (n.at == from) && are_siblings part.place n.place) part.neighbours
+has_sibling_at part from = list_any (λ j. j == from) part.siblings
 
 -- the least level that a touching leaf's level asks of a leaf: one less, and where that leaf is a sibling, no
 -- coarsening beside it
@@ -23,7 +18,7 @@ asked part from value = max (value - 1) (cond (has_sibling_at part from) (min va
 
 -- a level of the leaf, sent to each touching leaf in ascending order
 abbrev pub tells : LeafPart → ℕ → List (Envelope AdaptMsg)
-tells part level = map (λ n. record { to = n.at; msg = Level part.index level }) part.neighbours
+tells part level = map (λ j. record { to = j; msg = Level part.index level }) part.neighbours
 
 -- the cell once its start message is handled: it has started, at its opening level or above
 abbrev pub opened : LeafState → LeafState

@@ -1,3 +1,5 @@
+//! The adapt phase as a phase over messages: its beginning, its handling, and the levels at its end.
+
 ghost use Rattle.std.specs.Prelude.{◌≡◌, IfOk, length};
 ghost use Rattle.leaf_set.specs.LevelRules.{IsLeast};
 ghost use Rattle.adapt_core.specs.Problem.{mesh_of, wishes_of, problem_of, AdaptBegins};
@@ -31,7 +33,7 @@ impl Phase for Adapt {
     ghost use Rattle.adapt_core.specs.Problem.{problem_of, AdaptBegins};
     ghost use Rattle.adapt_core.specs.Holds.{AdaptHolds, adapt_weight, adapt_start_weight};
     ghost use Rattle.adapt_core.specs.React.{adapt_react, adapt_start};
-    ghost use Rattle.adapt_core.specs.AdaptLaws as laws;
+    ghost use Rattle.adapt_core.specs.Lemmas.AdaptLaws as laws;
 
     type Cell = AdaptCell;
 
@@ -92,7 +94,7 @@ impl Phase for Adapt {
                 cell.start(level);
             }
             AdaptMsg::Level { from, value } => {
-                let level = cell.level().max(cell.asked(from, value));
+                let level = cell.raised(from, value);
                 if cell.started() && cell.level() < level {
                     cell.tell(level, out)?;
                 }

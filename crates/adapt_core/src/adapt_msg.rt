@@ -1,3 +1,5 @@
+//! The messages of the adapt phase.
+
 /// A message of the adapt phase.
 #[derive(Debug, Clone, Copy, PartialEq, Eq, Drop)]
 pub enum AdaptMsg {

@@ -1,10 +1,10 @@
+//! A leaf of the adapt phase.
+
 ghost use Rattle.std.specs.Prelude.{◌≡◌, true, ◌++◌, OnOk, OnErr};
-ghost use Rattle.adapt_core.specs.React.{has_sibling_at, asked, tells};
+ghost use Rattle.adapt_core.specs.React.{raised, tells};
 ghost use Rattle.adapt_core.specs.Problem.{unopened};
 
 use crate::adapt_msg::AdaptMsg;
-use crate::neighbour::Neighbour;
-use crate::siblings::are_siblings;
 use block_index::{Place, Wish};
 use cello_num::Memory;
 use phase_core::{Envelope, Outbox};
@@ -17,7 +17,8 @@ pub struct AdaptCell {
     place: Place,
     wish: Wish,
     opening: u8,
-    neighbours: Vec<Neighbour>,
+    neighbours: Vec<u32>,
+    siblings: Vec<u32>,
     level: u8,
     started: bool,
 }
@@ -28,7 +29,7 @@ impl Model for AdaptCell {
     ghost Value = { LeafState };
 
     ghost view = { λ c. record {
-      part = record { index = c.index; place = c.place; wish = c.wish; opening = c.opening; neighbours = c.neighbours.items };
+      part = record { index = c.index; place = c.place; wish = c.wish; opening = c.opening; neighbours = c.neighbours.items; siblings = c.siblings.items };
       level = c.level;
       started = c.started;
     } };
@@ -41,9 +42,10 @@ impl AdaptCell {
         place: Place,
         wish: Wish,
         opening: u8,
-        neighbours: Vec<Neighbour>,
+        neighbours: Vec<u32>,
+        siblings: Vec<u32>,
     ) -> AdaptCell
-        ensures { result ≡ unopened (record { index = index; place = place; wish = wish; opening = opening; neighbours = neighbours.items }) }
+        ensures { result ≡ unopened (record { index = index; place = place; wish = wish; opening = opening; neighbours = neighbours.items; siblings = siblings.items }) }
     {
         AdaptCell {
             index,
@@ -51,6 +53,7 @@ impl AdaptCell {
             wish,
             opening,
             neighbours,
+            siblings,
             level: place.level().saturating_sub(1),
             started: false,
         }
@@ -91,26 +94,18 @@ impl AdaptCell {
         self.level = level;
     }
 
-    /// What the level `value` of the touching leaf at position `from` asks of this leaf: one less, and beside a
-    /// sibling that doesn't coarsen, not to coarsen.
-    pub(crate) fn asked(&self, from: u32, value: u8) -> u8
-        ensures { result ≡ asked self.now.part from value }
+    /// The level that the level `value` of the touching leaf at position `from` leaves to this leaf: at least one
+    /// less, and beside a sibling that doesn't coarsen, no coarser. It looks for the sibling only where that tells.
+    pub(crate) fn raised(&self, from: u32, value: u8) -> u8
+        ensures { result ≡ (raised self.now from value).level }
     {
-        let jump = value.saturating_sub(1);
-        if self.has_sibling_at(from) {
-            jump.max(value.min(self.place.level()))
+        let least = self.level.max(value.saturating_sub(1));
+        let beside = value.min(self.place.level());
+        if least < beside && self.siblings.contains(&from) {
+            beside
         } else {
-            jump
+            least
         }
-    }
-
-    fn has_sibling_at(&self, from: u32) -> bool
-        ensures { result ≡ has_sibling_at self.now.part from }
-    {
-        let place = self.place;
-        self.neighbours
-            .iter()
-            .any(|n| n.at == from && are_siblings(place, n.place))
     }
 
     /// Tells a level of this leaf to each touching leaf, in ascending order.
@@ -125,7 +120,7 @@ impl AdaptCell {
                 value: level,
             };
             out.push(Envelope {
-                to: neighbour.at,
+                to: *neighbour,
                 msg,
             });
         }

@@ -1,3 +1,5 @@
+//! The struct whose model is the problem.
+
 use crate::cell::AdaptCell;
 use block_index::Domain;
 use std::marker::Model;

@@ -1,3 +1,5 @@
+//! Laws of the problem: there is one, and no other.
+
 ghost use Rattle.std.specs.Prelude.{◌≡◌, List, length};
 ghost use Rattle.block_index.specs.Places.{Cube, Grid, IsDomain};
 ghost use Rattle.block_index.specs.declared.wish.Wish.{Wish};

@@ -1,5 +1,7 @@
+//! The test for siblings.
+
 ghost use Rattle.std.specs.Prelude.{◌≡◌};
-ghost use Rattle.adapt_core.specs.React.{are_siblings};
+ghost use Rattle.adapt_core.specs.Problem.{are_siblings};
 
 use block_index::Place;
 

@@ -1,3 +1,5 @@
+//! Phases with levels and counts found by hand.
+
 use crate::adapt::{Adapt, levels};
 use block_index::{Domain, Wish};
 use cello_neighbours::touching;

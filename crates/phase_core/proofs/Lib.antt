@@ -1,3 +1,5 @@
-pub mod Steps
-pub mod Courses
-pub mod Delivered
+-- Lemmas about runs of the core machine, and about how `drive` goes through one.
+pub mod Events
+pub mod Deliveries
+pub mod Flights
+pub mod Driving

@@ -1,9 +1,7 @@
+-- Definitions that contracts cite, and lemmas that laws of phases cite.
 pub mod Outgoing
 pub mod Machine
 pub mod Stands
 pub mod PhaseLaws
 pub mod Settled
-pub mod Starts
-pub mod Parts
-pub mod Ring
-pub mod RingLaws
+pub mod Lemmas

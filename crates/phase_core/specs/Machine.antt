@@ -41,11 +41,11 @@ pub record Handles {C M : Type 0} (react : ℕ → C → M → Reaction C M) (s 
   pub flight : t.flight ≡ remove s.flight i ++ (react envelope.to cell envelope.msg).sent
 
 -- the events lead from s to t, one after another
-abbrev pub Runs : {C M : Type 0} → (ℕ → C → M → Reaction C M) → CoreState C M → List Event → CoreState C M → Type 0
-Runs react s [] t = s ≡ t
-Runs {C} {M} react s (Handle i ∷ events) t = (next : CoreState C M) × (Handles react s i next) × Runs react next events t
+abbrev pub Delivers : {C M : Type 0} → (ℕ → C → M → Reaction C M) → CoreState C M → List Event → CoreState C M → Type 0
+Delivers react s [] t = s ≡ t
+Delivers {C} {M} react s (Handle i ∷ events) t = (next : CoreState C M) × (Handles react s i next) × Delivers react next events t
 
 -- the run that always handles the first envelope leads from s to the quiet state t, in this many events
 pub record RunsPlainly {C M : Type 0} (react : ℕ → C → M → Reaction C M) (s : CoreState C M) (count : ℕ) (t : CoreState C M) : Type 0 where
-  pub runs : Runs react s (replicate count (Handle 0)) t
+  pub runs : Delivers react s (replicate count (Handle 0)) t
   pub quiet : IsQuiet t

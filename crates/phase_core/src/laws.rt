@@ -1,21 +1,23 @@
+//! Laws about every run of a phase, in any order of delivery.
+
 ghost use Rattle.std.specs.Prelude.{◌≡◌, ℕ, ◌+◌, ◌<◌, ◌≤◌, List, length};
-ghost use Rattle.phase_core.specs.Machine.{CoreState, Event, Handles, Runs, RunsPlainly, start_state};
+ghost use Rattle.phase_core.specs.Machine.{CoreState, Event, Handles, Delivers, RunsPlainly, start_state};
 
 use crate::phase::Phase;
 
 /// Every run, whatever the order of delivery, keeps `holds` and the problem, and each event lowers the weight.
 pub fn every_run_keeps<P: Phase>()
-    ensures holds { (p : P.Problem) (s t : CoreState P.Cell P.Msg) (events : List Event) → P.holds p s.cells s.flight → Runs (P.react p) s events t → P.holds p t.cells t.flight }
-    ensures weight { (p : P.Problem) (s t : CoreState P.Cell P.Msg) (events : List Event) → P.holds p s.cells s.flight → Runs (P.react p) s events t → length events + P.weight p t.cells t.flight ≤ P.weight p s.cells s.flight }
-    ensures problem { (phase : P) (p : P.Problem) (s t : CoreState P.Cell P.Msg) (events : List Event) → Runs (P.react p) s events t → P.problem phase t.cells ≡ P.problem phase s.cells }
-    ensures places { (p : P.Problem) (s t : CoreState P.Cell P.Msg) (events : List Event) → Runs (P.react p) s events t → length t.cells ≡ length s.cells }
-    ensures flight { (p : P.Problem) (s t : CoreState P.Cell P.Msg) (events : List Event) → Runs (P.react p) s events t → length s.flight ≤ length events + length t.flight }
+    ensures holds { (p : P.Problem) (s t : CoreState P.Cell P.Msg) (events : List Event) → P.holds p s.cells s.flight → Delivers (P.react p) s events t → P.holds p t.cells t.flight }
+    ensures weight { (p : P.Problem) (s t : CoreState P.Cell P.Msg) (events : List Event) → P.holds p s.cells s.flight → Delivers (P.react p) s events t → length events + P.weight p t.cells t.flight ≤ P.weight p s.cells s.flight }
+    ensures problem { (phase : P) (p : P.Problem) (s t : CoreState P.Cell P.Msg) (events : List Event) → Delivers (P.react p) s events t → P.problem phase t.cells ≡ P.problem phase s.cells }
+    ensures places { (p : P.Problem) (s t : CoreState P.Cell P.Msg) (events : List Event) → Delivers (P.react p) s events t → length t.cells ≡ length s.cells }
+    ensures flight { (p : P.Problem) (s t : CoreState P.Cell P.Msg) (events : List Event) → Delivers (P.react p) s events t → length s.flight ≤ length events + length t.flight }
 {}
 
 /// The same from the start, where the problem tells the weight.
 pub fn every_run_from_the_start_keeps<P: Phase>()
-    ensures holds { (p : P.Problem) (cells : List P.Cell) (t : CoreState P.Cell P.Msg) (events : List Event) → P.begins p cells → Runs (P.react p) (start_state P.start cells) events t → P.holds p t.cells t.flight }
-    ensures weight { (p : P.Problem) (cells : List P.Cell) (t : CoreState P.Cell P.Msg) (events : List Event) → P.begins p cells → Runs (P.react p) (start_state P.start cells) events t → length events + P.weight p t.cells t.flight ≤ P.start_weight p }
+    ensures holds { (p : P.Problem) (cells : List P.Cell) (t : CoreState P.Cell P.Msg) (events : List Event) → P.begins p cells → Delivers (P.react p) (start_state P.start cells) events t → P.holds p t.cells t.flight }
+    ensures weight { (p : P.Problem) (cells : List P.Cell) (t : CoreState P.Cell P.Msg) (events : List Event) → P.begins p cells → Delivers (P.react p) (start_state P.start cells) events t → length events + P.weight p t.cells t.flight ≤ P.start_weight p }
 {}
 
 /// Each envelope in flight can be handled, so a run goes on until nothing is in flight; and it weighs at least one.

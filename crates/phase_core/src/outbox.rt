@@ -1,4 +1,6 @@
-ghost use Rattle.std.specs.Prelude.{◌≡◌, ◌+◌, ◌≤◌, ◌++◌, ◌∷◌, [], OnOk};
+//! What a handling sends.
+
+ghost use Rattle.std.specs.Prelude.{◌≡◌, ◌+◌, ◌≤◌, ◌++◌, ◌∷◌, [], OnOk, reverse};
 
 use crate::envelope::Envelope;
 use cello_num::Memory;
@@ -40,22 +42,34 @@ impl<M> Outbox<M> {
         Ok(())
     }
 
+    /// Puts an envelope behind the others, at a reserved place.
     pub fn push(&mut self, envelope: Envelope<M>)
-        requires { 1 ≤ self.old.spare }
+        requires room { 1 ≤ self.old.spare }
         ensures items { self.new.items ≡ self.old.items ++ envelope ∷ [] }
         ensures spare { self.new.spare + 1 ≡ self.old.spare }
     {
         self.sent.push_reserved(envelope);
     }
 
+    /// Takes other envelopes in the place of those sent so far, which it gives in return, the last one first.
+    pub(crate) fn swap_reversed(&mut self, other: &mut Vec<Envelope<M>>)
+        ensures items { self.new.items ≡ other.old.items }
+        ensures other { other.new.items ≡ reverse self.old.items }
+    {
+        self.sent.as_mut_slice().reverse();
+        std::mem::swap(&mut self.sent, other);
+    }
+
+    /// The envelopes, first sent first.
     pub fn items(&self) -> &[Envelope<M>]
-        ensures { result.now ≡ self.now.items }
+        ensures items { result.now ≡ self.now.items }
     {
         self.sent.as_slice()
     }
 
+    /// The envelopes, first sent first, as a list of one's own.
     pub fn into_items(self) -> Vec<Envelope<M>>
-        ensures { result.items ≡ self.items }
+        ensures items { result.items ≡ self.items }
     {
         let Outbox { sent } = self;
         sent

@@ -1,3 +1,5 @@
+//! The trait of phases: cells, messages, what handling does, and the laws.
+
 ghost use Rattle.std.specs.Prelude.{◌≡◌, ℕ, ◌++◌, List, OnOk, OnErr};
 ghost use Rattle.phase_core.specs.declared.envelope.Envelope.{Envelope};
 ghost use Rattle.phase_core.specs.Machine.{Reaction};
@@ -11,8 +13,10 @@ use std::alloc::Global;
 /// Cells that handle messages. What a phase means is said over plain data: by its problem, its invariant `holds`, its
 /// `weight`, and `react`. Its laws make every run keep `holds` and end, whatever the order of delivery.
 pub trait Phase: Drop {
+    /// A cell: what stays at its place and handles messages.
     type Cell: Drop;
 
+    /// What cells send one another.
     type Msg: Drop;
 
     /// The phase's own plain data and the part that each cell keeps, in order. No value of it is ever made: a phase
@@ -40,8 +44,9 @@ pub trait Phase: Drop {
     // What handling a message does, at a position and the cell there: the new cell, and what is sent.
     ghost react: { Self.Problem → ℕ → Self.Cell → Self.Msg → Reaction Self.Cell Self.Msg };
 
+    /// The start message of the cell at position `to`.
     fn start(&self, to: u32) -> Self::Msg
-        ensures { result ≡ start to };
+        ensures message { result ≡ start to };
 
     /// Handles one message at the cell at position `at`. What it sends goes to `out`, behind what waits there.
     fn handle(
@@ -52,7 +57,7 @@ pub trait Phase: Drop {
         msg: &Self::Msg,
         out: &mut Outbox<Self::Msg>,
     ) -> Result<(), Memory>
-        requires { CanHandle holds (problem self.now) at cell.old msg.now }
+        requires stands { CanHandle holds (problem self.now) at cell.old msg.now }
         ensures cell { (cells : List Self.Cell) (flight : List (Envelope Self.Msg)) → Stands holds (problem self.now) at cell.old msg.now cells flight → OnOk result (cell.new ≡ (react (problem self.now cells) at cell.old msg.now).cell) }
         ensures sent { (cells : List Self.Cell) (flight : List (Envelope Self.Msg)) → Stands holds (problem self.now) at cell.old msg.now cells flight → OnOk result (out.new.items ≡ out.old.items ++ (react (problem self.now cells) at cell.old msg.now).sent) }
         ensures cell_stays { OnErr result (cell.new ≡ cell.old) }

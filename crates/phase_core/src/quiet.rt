@@ -1,3 +1,5 @@
+//! A phase that has come to rest.
+
 ghost use Rattle.std.specs.Prelude.{◌≡◌, ◌≤◌, []};
 
 use crate::phase::Phase;
@@ -38,6 +40,7 @@ impl<P: Phase> Quiet<P> {
         }
     }
 
+    /// The cells at rest.
     pub fn cells(&self) -> &[P::Cell]
         ensures cells { result.now ≡ self.now.cells }
         ensures holds { P.holds self.now.problem self.now.cells [] }
@@ -53,6 +56,7 @@ impl<P: Phase> Quiet<P> {
         self.handled
     }
 
+    /// The cells at rest, as a list of one's own.
     pub fn into_cells(self) -> Vec<P::Cell>
         ensures cells { result.items ≡ self.cells }
         ensures holds { P.holds self.problem self.cells [] }

@@ -1,4 +1,5 @@
-// A small phase for the tests: each cell passes a token to the next cell, which answers.
+//! A small phase for the tests: each cell passes a token to the next cell, which answers.
+
 use crate::envelope::Envelope;
 use crate::outbox::Outbox;
 use crate::phase::Phase;
@@ -19,7 +20,7 @@ pub struct Places {
 }
 
 impl Model for Places {
-    ghost use Rattle.phase_core.specs.Ring.{RingProblem};
+    ghost use Rattle.phase_core.specs.Lemmas.Ring.{RingProblem};
 
     ghost Value = { RingProblem };
 
@@ -34,7 +35,7 @@ pub struct Place {
 }
 
 impl Model for Place {
-    ghost use Rattle.phase_core.specs.Ring.{RingPlace};
+    ghost use Rattle.phase_core.specs.Lemmas.Ring.{RingPlace};
 
     ghost Value = { RingPlace };
 
@@ -54,7 +55,7 @@ pub struct Note {
 }
 
 impl Model for Note {
-    ghost use Rattle.phase_core.specs.Ring.{RingNote, Begin, Token, Answer};
+    ghost use Rattle.phase_core.specs.Lemmas.Ring.{RingNote, Begin, Token, Answer};
     ghost use Rattle.phase_core.specs.declared.ring.Kind.TheVariants.{Begin as KindBegin, Token as KindToken, Answer as KindAnswer};
 
     ghost Value = { RingNote };
@@ -85,8 +86,8 @@ impl Place {
 }
 
 impl Phase for Ring {
-    ghost use Rattle.phase_core.specs.Ring.{ring_problem, IsRing, RingHolds, ring_weight, ring_start_weight, ring_start, ring_react};
-    ghost use Rattle.phase_core.specs.RingLaws as laws;
+    ghost use Rattle.phase_core.specs.Lemmas.Ring.{ring_problem, IsRing, RingHolds, ring_weight, ring_start_weight, ring_start, ring_react};
+    ghost use Rattle.phase_core.specs.Lemmas.RingLaws as laws;
 
     type Cell = Place;
 

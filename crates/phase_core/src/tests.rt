@@ -1,6 +1,8 @@
+//! A small phase run, an outbox, and what threads will ask.
+
 ghost use Rattle.std.specs.Prelude.{IfOk, ◌≤◌, ◌*◌, List, length};
-ghost use Rattle.phase_core.specs.Machine.{CoreState, Event, Runs, start_state};
-ghost use Rattle.phase_core.specs.Ring.{RingNote, RingPlace, RingProblem, ring_problem, ring_react, ring_start, IsRing};
+ghost use Rattle.phase_core.specs.Machine.{CoreState, Event, Delivers, start_state};
+ghost use Rattle.phase_core.specs.Lemmas.Ring.{RingNote, RingPlace, RingProblem, ring_problem, ring_react, ring_start, IsRing};
 
 use crate::delivery::drive;
 use crate::envelope::Envelope;
@@ -26,7 +28,7 @@ fn three_places(alloc: Global) -> Result<Vec<Place>, Memory>
 
 /// What the laws say of this phase, whatever the order of delivery.
 fn runs_are_short()
-    ensures { (p : RingProblem) (cells : List RingPlace) (t : CoreState RingPlace RingNote) (events : List Event) → IsRing p cells → Runs (ring_react p) (start_state ring_start cells) events t → length events ≤ 3 * p.places }
+    ensures { (p : RingProblem) (cells : List RingPlace) (t : CoreState RingPlace RingNote) (events : List Event) → IsRing p cells → Delivers (ring_react p) (start_state ring_start cells) events t → length events ≤ 3 * p.places }
 {
     every_run_from_the_start_keeps::<Ring>()
 }

@@ -9,7 +9,7 @@ use Rattle.block_index.specs.Places.{Cube, Grid}
 use Rattle.block_index.specs.declared.wish.Wish.{Wish}
 use Rattle.block_index.specs.declared.wish.Wish.TheVariants.{Stay}
 use Rattle.leaf_set.specs.Opening.{IsOpening, KeepsOwnRules}
-use Rattle.sibling_rule.specs.OwnLevel.{OpensAt}
+use Rattle.sibling_rule.specs.Lemmas.OwnLevel.{OpensAt}
 
 -- each of the levels opens its leaf
 pub record AreOpening (grid : Grid) (mesh : List Cube) (wishes : List Wish) (levels : List ℕ) : Type 0 where

@@ -1,2 +1,3 @@
-pub mod OwnLevel
+-- What a contract cites beside the specs of `leaf_set`, and what the functions within cite.
 pub mod Decided
+pub mod Lemmas

@@ -1,3 +1,5 @@
+//! The leaves that decided levels lead to: how many, and the next mesh.
+
 ghost use Rattle.std.specs.Prelude.{◌≡◌, ◌++◌, ◌<◌, ◌≤◌, [], ◌∷◌, ◌==◌, if◌then◌else◌, IfOk, OnOk, length};
 ghost use Rattle.block_index.specs.Places.{child_number, parent_of};
 ghost use Rattle.leaf_set.specs.NextMesh.{children_of, leaves_after, next_mesh};

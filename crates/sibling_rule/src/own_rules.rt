@@ -1,8 +1,10 @@
+//! The levels that open a phase, leaf by leaf.
+
 ghost use Rattle.std.specs.Prelude.{◌≡◌, ◌≤◌, ◌↔◌, IfOk, IsTrue, length, min};
 ghost use Rattle.leaf_set.specs.LevelRules.{wished_level};
 ghost use Rattle.leaf_set.specs.Meshes.{IsLeaf};
 ghost use Rattle.leaf_set.specs.Opening.{IsOpening};
-ghost use Rattle.sibling_rule.specs.OwnLevel.{IsLone, OpensAt};
+ghost use Rattle.sibling_rule.specs.Lemmas.OwnLevel.{IsLone, OpensAt};
 
 use block_index::{Place, Wish};
 use cello_num::Memory;
@@ -21,14 +23,14 @@ pub fn opening(alloc: Global, set: &LeafSet, wishes: &[Wish]) -> Result<Vec<u8>,
     Ok(levels)
 }
 
-/// The opening level of one leaf.
+/// The opening level of one leaf. It looks for a missing sibling only where the leaf wishes to coarsen.
 fn opening_level(set: &LeafSet, leaf: Place, wish: Wish) -> u8
     requires { IsLeaf set.now.places leaf }
     ensures { OpensAt set.now.grid set.now.places leaf wish result }
 {
     let wished = wished_level(leaf.level(), wish, set.domain().max_level());
-    if is_lone(set, leaf) {
-        wished.max(leaf.level())
+    if wished < leaf.level() && is_lone(set, leaf) {
+        leaf.level()
     } else {
         wished
     }

@@ -1,3 +1,5 @@
+//! Meshes of one tree, taken on by the opening levels alone.
+
 ghost use Rattle.std.specs.Prelude.{◌≡◌, ◌≤◌, length};
 
 use crate::{count_after, decide, opening};

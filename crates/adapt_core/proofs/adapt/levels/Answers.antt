@@ -1,3 +1,4 @@
+-- The levels of the cells at rest are the least.
 use Rattle.std.proofs.Common.{◌≡◌, List, map, rules}
 use Rattle.leaf_set.specs.LevelRules.{IsLeast}
 use Rattle.adapt_core.specs.Cells.{LeafState}

@@ -1,10 +1,11 @@
+-- From the laws of the phase and its levels at rest.
 use Rattle.std.proofs.Common.{subst, arith}
 use Rattle.std.proofs.lemmas.List.{length-map}
 use Rattle.adapt_core.specs.Cells.{LeafPart}
 use Rattle.adapt_core.specs.Holds.{AdaptHolds}
-use Rattle.adapt_core.specs.Beginning.{start_weight_most}
+use Rattle.adapt_core.specs.Lemmas.Beginning.{start_weight_most}
 use Rattle.adapt_core.proofs.Rest.{levels-IsLeast}
-use Rattle.adapt_core.proofs.Runs.{run_holds, run_handles}
+use Rattle.adapt_core.proofs.EveryRun.{run_holds, run_handles}
 use Rattle.adapt_core.proofs.laws.every_run_agrees.Goals as goal
 
 pub returns-clause-holds : goal.returns-clause-holds

@@ -1,4 +1,5 @@
-use Rattle.adapt_core.specs.AdaptLaws.{start_weight_few}
+-- A leaf adds little to the weight at the start.
+use Rattle.adapt_core.specs.Lemmas.AdaptLaws.{start_weight_few}
 use Rattle.adapt_core.proofs.laws.few_messages.Goals as goal
 
 pub returns : goal.returns

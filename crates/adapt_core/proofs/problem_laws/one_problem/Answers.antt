@@ -1,3 +1,4 @@
+-- There is no other.
 use Rattle.adapt_core.proofs.OneProblem.{same_problem, same_cells}
 use Rattle.adapt_core.proofs.problem_laws.one_problem.Goals as goal
 

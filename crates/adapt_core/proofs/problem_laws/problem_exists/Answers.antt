@@ -1,3 +1,4 @@
+-- There is a problem.
 use Rattle.adapt_core.proofs.FirstProblems.{problem_exists}
 use Rattle.adapt_core.proofs.problem_laws.problem_exists.Goals as goal
 

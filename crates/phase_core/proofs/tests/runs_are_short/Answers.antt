@@ -1,5 +1,6 @@
+-- The start of the test phase weighs three for each place.
 use Rattle.std.proofs.Common.{◌+◌, ◌*◌, ◌≤◌, length, arith}
-use Rattle.phase_core.specs.Ring.{ring_weight}
+use Rattle.phase_core.specs.Lemmas.Ring.{ring_weight}
 use Rattle.phase_core.proofs.tests.runs_are_short.Goals as goal
 
 pub returns : goal.returns

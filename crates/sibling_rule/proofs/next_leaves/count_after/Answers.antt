@@ -1,3 +1,4 @@
+-- One leaf's more, and no count too large.
 use Rattle.std.proofs.Common.{◌+◌, length, drop, slice_index, arith, ap, length-append}
 use Rattle.leaf_set.specs.NextMesh.{leaves_after, next_mesh}
 use Rattle.sibling_rule.proofs.NextMeshSteps.{next_mesh-drop, length-next_mesh}

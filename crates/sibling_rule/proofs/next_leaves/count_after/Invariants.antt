@@ -1,3 +1,4 @@
+-- The leaves so far.
 use Rattle.std.proofs.Common.{◌≡◌, ◌+◌, length, drop}
 use Rattle.leaf_set.specs.NextMesh.{next_mesh}
 use Rattle.sibling_rule.proofs.next_leaves.count_after.Given as goal

@@ -1,3 +1,4 @@
+-- One leaf's more, and at the end a balanced mesh.
 use Rattle.std.proofs.Common.{◌≡◌, ◌+◌, ◌++◌, drop, slice_index, arith, sym, ap, subst, ◌∙◌, append-nil}
 use Rattle.std.proofs.lemmas.List.{append_assoc}
 use Rattle.leaf_set.specs.NextMesh.{leaves_after, next_mesh}

@@ -1,3 +1,4 @@
+-- The next mesh as far as the leaves were looked at.
 use Rattle.std.proofs.Common.{◌≡◌, ◌++◌, drop}
 use Rattle.leaf_set.specs.NextMesh.{next_mesh}
 use Rattle.sibling_rule.proofs.next_leaves.decide.Given as goal

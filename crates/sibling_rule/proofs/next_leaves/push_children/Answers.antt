@@ -1,3 +1,4 @@
+-- One more child.
 use Rattle.std.proofs.Common.{◌++◌, [], ◌∷◌, map, arith, sym, ap, ◌∙◌}
 use Rattle.std.specs.List.{range_with_len}
 use Rattle.std.proofs.lemmas.List.{append_assoc}

@@ -1,3 +1,4 @@
+-- The children so far.
 use Rattle.std.proofs.Common.{◌≡◌, ◌++◌, map}
 use Rattle.std.specs.List.{range_with_len}
 use Rattle.block_index.specs.Places.{child_of}

@@ -1,3 +1,4 @@
+-- A missing sibling, or none.
 use Rattle.std.proofs.Common.{◌≡◌, ℕ, List, true, Option, None, Some, IfSome, is_some, not, slice_get, below_more, true≢false, arith, sym, ap, subst, ◌∙◌}
 use Rattle.block_index.specs.Places.{Cube, child_of}
 use Rattle.leaf_set.specs.Meshes.{IsLeaf}

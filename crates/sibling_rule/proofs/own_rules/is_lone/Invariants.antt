@@ -1,3 +1,4 @@
+-- The siblings so far are leaves.
 use Rattle.std.proofs.Common.{ℕ, ◌<◌}
 use Rattle.block_index.specs.Places.{child_of}
 use Rattle.leaf_set.specs.Meshes.{IsLeaf}

@@ -1,3 +1,4 @@
+-- One more opening level, and at the end all.
 use Rattle.std.proofs.Common.{◌<◌, [], ◌∷◌, length, length-append, arith, sym, ap, subst}
 use Rattle.std.proofs.lemmas.Option.{slice_get-get_or}
 use Rattle.block_index.specs.declared.wish.Wish.TheVariants.{Coarsen}

@@ -1,3 +1,4 @@
+-- The opening levels so far.
 use Rattle.std.proofs.Common.{◌≡◌, length}
 use Rattle.sibling_rule.proofs.OpeningSteps.{AreOpening}
 use Rattle.sibling_rule.proofs.own_rules.opening.Given as goal

@@ -1,3 +1,4 @@
+-- Even opening levels are a solution.
 use Rattle.std.proofs.Common.{IfOk, arith, sym, subst}
 use Rattle.leaf_set.specs.LevelRules.{IsSolution}
 use Rattle.leaf_set.specs.Opening.{IsOpening}

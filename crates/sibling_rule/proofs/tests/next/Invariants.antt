@@ -1,3 +1,4 @@
+-- The levels so far are even.
 use Rattle.sibling_rule.proofs.EvenLevels.{AreEven}
 use Rattle.sibling_rule.proofs.tests.next.Given as goal
 

@@ -1,5 +1,5 @@
 -- The adapt phase keeps the laws of phases.
-use Rattle.std.proofs.Common.{◌≡◌, ℕ, ◌+◌, ◌-◌, ◌*◌, ◌^◌, ◌<◌, ◌≤◌, true, cond, List, Some, map, length, get_or, refl, ap, ◌∙◌, subst, arith, inl, inr, mul-le-mul_right}
+use Rattle.std.proofs.Common.{◌≡◌, ℕ, ◌*◌, ◌^◌, ◌<◌, ◌≤◌, true, cond, List, Some, length, get_or, refl, ap, ◌∙◌, subst, arith, inl, inr}
 use Rattle.std.specs.Prelude.{All, IsPermutation, slice_get, slice_set, ◌&&◌}
 use Rattle.std.proofs.lemmas.Bool.{eq-eqb}
 use Rattle.std.proofs.lemmas.List.{length-map}
@@ -7,7 +7,7 @@ use Rattle.std.proofs.lemmas.List.Sorted.{All-permutation, Contains-permutation,
 use Rattle.std.proofs.lemmas.List.Sums.{sum_by-le, get_or-le-sum_by}
 use Rattle.std.proofs.lemmas.Option.{slice_get_cases, slice_get_within, slice_get-get_or}
 use Rattle.phase_core.specs.declared.envelope.Envelope.{Envelope}
-use Rattle.phase_core.specs.Parts.{map-slice_set_same}
+use Rattle.phase_core.specs.Lemmas.Lookups.{map-slice_set_same}
 use Rattle.block_index.specs.Places.{Grid}
 use Rattle.leaf_set.proofs.LeafCounts.{length-IsMesh_limit}
 use Rattle.adapt_core.specs.declared.adapt_msg.AdaptMsg.{AdaptMsg}
@@ -15,12 +15,13 @@ use Rattle.adapt_core.specs.declared.adapt_msg.AdaptMsg.TheVariants.{Start, Leve
 use Rattle.adapt_core.specs.Cells.{LeafPart, LeafState, AdaptProblem}
 use Rattle.adapt_core.specs.React.{adapt_react}
 use Rattle.adapt_core.specs.Problem.{mesh_of, problem_of, IsAdaptProblem}
-use Rattle.adapt_core.specs.Holds.{is_start, starts_to, starts_due, IsTold, AdaptHolds, degree, adapt_start_weight}
-use Rattle.adapt_core.specs.Leaves.{length_cells}
-use Rattle.adapt_core.specs.Keeping.{start_at}
-pub use Rattle.adapt_core.specs.Keeping.{keeps}
-pub use Rattle.adapt_core.specs.Weighing.{lowers, weighs_in_any_order}
-pub use Rattle.adapt_core.specs.Beginning.{start_holds, start_weighs}
+use Rattle.adapt_core.specs.Holds.{is_start, starts_to, starts_due, IsTold, AdaptHolds, degree, adapt_start_weight, touching_pairs}
+use Rattle.adapt_core.specs.Lemmas.Leaves.{length_cells}
+use Rattle.adapt_core.specs.Lemmas.Beginning.{start_weight_most}
+use Rattle.adapt_core.specs.Lemmas.Keeping.{start_at}
+pub use Rattle.adapt_core.specs.Lemmas.Keeping.{keeps}
+pub use Rattle.adapt_core.specs.Lemmas.Weighing.{lowers, weighs_in_any_order}
+pub use Rattle.adapt_core.specs.Lemmas.Beginning.{start_holds, start_weighs}
 
 pub holds_in_any_order : (p : AdaptProblem) (cells : List LeafState) (flight other : List (Envelope AdaptMsg)) → IsPermutation flight other → AdaptHolds p cells flight → AdaptHolds p cells other
 holds_in_any_order p cells flight other moved holds =
@@ -80,15 +81,9 @@ addressed p cells flight holds k d within = go (get_or flight k d).msg refl
 -- a leaf has at most 56 that touch it, and a mesh has at most 2 ^ 30 leaves
 pub start_weight_few : (p : AdaptProblem) → IsAdaptProblem p → adapt_start_weight p ≤ 2 ^ 38
 start_weight_few p valid =
-    let one : LeafPart → ℕ = λ x. 1 + degree x + (x.place.level + 1 - (x.place.level - 1)) * degree x in
-    let each : All (λ x. one x ≤ 169) p.parts = λ k d within.
-    let part : LeafPart = get_or p.parts k d in
-    let few : length (map (λ n. n.at) part.neighbours) ≤ 56 = (valid.parts k part (slice_get-get_or p.parts k d within)).touching.few in
-    let deg : length (map (λ n. n.at) part.neighbours) ≡ degree part = length-map part.neighbours (λ n. n.at) in
-    let two : (part.place.level + 1 - (part.place.level - 1)) * degree part ≤ 2 * degree part = mul-le-mul_right (degree part) (let less : part.place.level + 1 - (part.place.level - 1) ≤ 2 = omega arith in less) in
-    omega (arith, few, deg, two) in
-    let all : adapt_start_weight p ≤ length p.parts * 169 = sum_by-le one 169 p.parts each in
-    omega (arith, all, few_leaves p valid)
+    let few : All (λ part. degree part ≤ 56) p.parts = λ k d within. (valid.parts k (get_or p.parts k d) (slice_get-get_or p.parts k d within)).touching.few in
+    let pairs : touching_pairs p ≤ length p.parts * 56 = sum_by-le degree 56 p.parts few in
+    omega (arith, start_weight_most p, pairs, few_leaves p valid)
 
 pub start_weight_fits : (p : AdaptProblem) (cells : List LeafState) (flight : List (Envelope AdaptMsg)) → AdaptHolds p cells flight → adapt_start_weight p < 2 ^ 62
 start_weight_fits p cells flight holds = omega (arith, start_weight_few p holds.problem)

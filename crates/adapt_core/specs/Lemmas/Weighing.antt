@@ -8,25 +8,24 @@ use Rattle.std.proofs.lemmas.Option.{slice_get_within, get_or_from_slice_get}
 use Rattle.phase_core.specs.declared.envelope.Envelope.{Envelope}
 use Rattle.leaf_set.specs.Solutions.{greatest_levels}
 use Rattle.leaf_set.proofs.Solutions.{greatest_levels-IsSolution, greatest_at}
-use Rattle.adapt_core.specs.declared.neighbour.Neighbour.{Neighbour}
 use Rattle.adapt_core.specs.declared.adapt_msg.AdaptMsg.{AdaptMsg}
 use Rattle.adapt_core.specs.declared.adapt_msg.AdaptMsg.TheVariants.{Start, Level}
 use Rattle.adapt_core.specs.Cells.{LeafState, AdaptProblem}
 use Rattle.adapt_core.specs.React.{asked, tells, raised, opened, adapt_react}
 use Rattle.adapt_core.specs.Problem.{mesh_of, wishes_of}
 use Rattle.adapt_core.specs.Holds.{is_start, is_level, AdaptHolds, degree, cell_weight, levels_in, adapt_weight}
-use Rattle.adapt_core.specs.Leaves.{get_place}
-use Rattle.adapt_core.specs.Keeping.{start_waits, step_of}
+use Rattle.adapt_core.specs.Lemmas.Leaves.{get_place}
+use Rattle.adapt_core.specs.Lemmas.Keeping.{start_waits, handling_of}
 
 -- what an envelope adds to the count of the level messages
 abbrev pub level_any : Envelope AdaptMsg → ℕ
 level_any e = cond (is_level e.msg) 1 0
 
-pub levels_in-tells : (index level : ℕ) (ns : List Neighbour) → levels_in (map (λ n. record { to = n.at; msg = Level index level }) ns) ≡ length ns
+pub levels_in-tells : (index level : ℕ) (js : List ℕ) → levels_in (map (λ j. record { to = j; msg = Level index level }) js) ≡ length js
 levels_in-tells index level [] = refl
-levels_in-tells index level (n ∷ ns) =
-    let told : Neighbour → Envelope AdaptMsg = λ x. record { to = x.at; msg = Level index level } in
-    omega (arith, sum_by-cons level_any (told n) (map told ns), levels_in-tells index level ns)
+levels_in-tells index level (j ∷ js) =
+    let told : ℕ → Envelope AdaptMsg = λ x. record { to = x; msg = Level index level } in
+    omega (arith, sum_by-cons level_any (told j) (map told js), levels_in-tells index level js)
 
 -- a telling weighs no more than the rise that it tells of
 tell_weighs : (l level new deg rest : ℕ) → level < new → new ≤ l + 1 → deg + (rest + (l + 1 - new) * deg) < rest + (l + 1 - level) * deg + 1
@@ -67,7 +66,7 @@ pub lowers : (p : AdaptProblem) (cells : List LeafState) (e : Envelope AdaptMsg)
 lowers p cells e rest c holds here =
     let r = adapt_react p e.to c e.msg in
     let valid = holds.problem in
-    let moves = step_of p cells e rest c holds here in
+    let moves = handling_of p cells e rest c holds here in
     let most : r.cell.level ≤ slice_index (greatest_levels p.grid (mesh_of p)) e.to = moves.high (greatest_levels p.grid (mesh_of p)) (greatest_levels-IsSolution p.grid (mesh_of p) (wishes_of p) valid.domain valid.mesh valid.balanced) in
     let greatest = greatest_at p.grid (mesh_of p) e.to c.part.place (get_place p cells valid holds.parts e.to c here) in
     let within = slice_get_within cells e.to c here in

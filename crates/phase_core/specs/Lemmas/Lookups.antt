@@ -1,9 +1,8 @@
 -- Looking up in lists: after a map, after a write, and of what a list contains.
-use Rattle.std.proofs.Common.{◌≡◌, ℕ, zero, suc, Bool, true, List, [], ◌∷◌, Some, map, refl, sym, ap, ◌∙◌, subst, ◌⊎◌, inl, inr}
+use Rattle.std.proofs.Common.{◌≡◌, ℕ, zero, suc, List, [], ◌∷◌, Some, map, refl, sym, ap, ◌∙◌, subst, ◌⊎◌, inl, inr}
 use Rattle.std.specs.Prelude.{Contains, slice_get, slice_set}
-use Rattle.std.specs.List.{list_any}
 use Rattle.std.specs.Option.{option_map}
-use Rattle.std.proofs.lemmas.Bool.{cases_eq, or_cases, false≢true}
+use Rattle.std.proofs.lemmas.Bool.{cases_eq}
 use Rattle.std.proofs.lemmas.Option.{none-some, same_Some, slice_get-map, slice_get-get_or, slice_get_within, get_or_from_slice_get}
 
 pub get-map : {A B : Type 0} (f : A → B) (xs : List A) (i : ℕ) (x : A) → slice_get xs i ≡ Some x → slice_get (map f xs) i ≡ Some (f x)
@@ -36,6 +35,17 @@ get-set_cases xs i j x y z here there =
       | inr n ↦ inr (n, sym (get-set_other xs i j y n) ∙ there)
     ]
 
+-- a write that keeps an element's image leaves the list of images as it was: what a cell keeps, a phase's problem lists
+pub map-slice_set_same : {C K : Type 0} (part : C → K) (cells : List C) (at : ℕ) (cell new : C) → slice_get cells at ≡ Some cell → part new ≡ part cell → map part (slice_set cells at new) ≡ map part cells
+map-slice_set_same part [] at cell new here same = refl
+map-slice_set_same {C} {K} part (c ∷ cells) zero cell new here same =
+    let is : c ≡ cell = cc in
+    let put : K → List K = λ k. k ∷ map part cells in
+    ap put (same ∙ ap part (sym is))
+map-slice_set_same {C} {K} part (c ∷ cells) (suc at) cell new here same =
+    let put : List K → List K = λ ks. part c ∷ ks in
+    ap put (map-slice_set_same part cells at cell new here same)
+
 pub Contains-get : {A : Type 0} (xs : List A) (x : A) → Contains xs x → (k : ℕ) × (slice_get xs k ≡ Some x)
 Contains-get xs x h = (h.0, slice_get-get_or xs h.0 x h.1 ∙ ap Some h.2)
 
@@ -59,15 +69,3 @@ Contains-cons_cases x xs y h = go (Contains-get (x ∷ xs) y h).0 (Contains-get 
     go : (k : ℕ) → slice_get (x ∷ xs) k ≡ Some y → (x ≡ y) ⊎ Contains xs y
     go zero e = inl (same_Some x y e)
     go (suc k) e = inr (Contains-at xs k y e)
-
--- an element that passes a test that one passes
-pub list_any-found : {A : Type 0} (test : A → Bool) (xs : List A) → list_any test xs ≡ true → (x : A) × Contains xs x × (test x ≡ true)
-list_any-found {A} test xs h = let f = go xs h in (f.1, Contains-at xs f.0 f.1 f.2, f.3)
-  where
-    go : (ys : List A) → list_any test ys ≡ true → (k : ℕ) × (x : A) × (slice_get ys k ≡ Some x) × (test x ≡ true)
-    go [] e = absurd (false≢true e)
-    go (y ∷ ys) e =
-        elim (or_cases (test y) (list_any test ys) e) [
-          | inl now ↦ (zero, y, refl, now)
-          | inr later ↦ let f = go ys later in (suc f.0, f.1, f.2, f.3)
-        ]

@@ -1,17 +1,17 @@
 -- Siblings: the test for them, that two of them touch, and what a touching leaf's level asks of a leaf.
-use Rattle.std.proofs.Common.{◌≡◌, ℕ, ◌+◌, ◌-◌, ◌*◌, ◌/◌, ◌≤◌, min, max, Bool, true, cond, Some, sym, ap, ◌∙◌, subst, arith, inl, inr, mul-le-mul_right}
+use Rattle.std.proofs.Common.{◌≡◌, ℕ, ◌+◌, ◌-◌, ◌*◌, ◌/◌, ◌≤◌, min, max, Bool, true, cond, List, Some, sym, ap, ◌∙◌, arith, inl, inr, mul-le-mul_right}
 use Rattle.std.specs.Prelude.{slice_get, ◌==◌, ◌&&◌, nat_le}
 use Rattle.std.proofs.lemmas.Bool.{and_parts, and_from, leb-true, le-leb, eqb-true, eq-eqb, cases_Bool}
-use Rattle.std.proofs.lemmas.Option.{same_Some}
-use Rattle.std.proofs.lemmas.Map.Keys.{any_passes_from_place}
+use Rattle.std.proofs.lemmas.List.Folds.{list_any_at}
+use Rattle.std.proofs.lemmas.Map.Views.{any-filter_same}
+use Rattle.std.proofs.Math.Bool.{and-true}
+use Rattle.std.specs.List.{list_any}
 use Rattle.block_index.specs.Places.{Cube, Grid, parent_of}
 use Rattle.block_index.specs.Touching.{width, MeetsOnAxis, Touches}
 use Rattle.leaf_set.specs.LevelRules.{AreSiblings}
-use Rattle.adapt_core.specs.declared.neighbour.Neighbour.{Neighbour}
-use Rattle.adapt_core.specs.Cells.{LeafPart, AdaptProblem}
-use Rattle.adapt_core.specs.React.{are_siblings, has_sibling_at, asked}
-use Rattle.adapt_core.specs.Problem.{mesh_of, IsPartAt}
-use Rattle.adapt_core.specs.Lookups.{Contains-get, Contains-map_back, list_any-found}
+use Rattle.adapt_core.specs.Cells.{LeafPart}
+use Rattle.adapt_core.specs.React.{has_sibling_at, asked}
+use Rattle.adapt_core.specs.Problem.{are_siblings, has_sibling, IsPartAt}
 
 same_parent : (a c : Cube) → c.level ≡ a.level → c.x / 2 ≡ a.x / 2 → c.y / 2 ≡ a.y / 2 → c.z / 2 ≡ a.z / 2 → parent_of c ≡ parent_of a
 same_parent a c l x y z =
@@ -63,23 +63,16 @@ AreSiblings-Touches grid a c h n =
     }
 
 -- a part, and a leaf q at position `from` that touches it
-module _ (p : AdaptProblem) (i : ℕ) (part : LeafPart) (valid : IsPartAt p i part) (here : slice_get (mesh_of p) i ≡ Some part.place) (from : ℕ) (q : Cube) (there : slice_get (mesh_of p) from ≡ Some q) (touch : Touches p.grid part.place q) where
-  sibling_from_list : has_sibling_at part from ≡ true → AreSiblings part.place q
-  sibling_from_list h =
-      let f = list_any-found (λ (n : Neighbour). (n.at == from) && are_siblings part.place n.place) part.neighbours h in
-      let both = and_parts (f.0.at == from) (are_siblings part.place f.0.place) f.2 in
-      let at : slice_get (mesh_of p) from ≡ Some f.0.place = subst (λ k. slice_get (mesh_of p) k ≡ Some f.0.place) (eqb-true f.0.at from both.0) (valid.placed f.0 f.1) in
-      let same : f.0.place ≡ q = same_Some f.0.place q (sym at ∙ there) in
-      subst (λ x. AreSiblings part.place x) same (AreSiblings-from_test part.place f.0.place both.1)
-
-  list_has_sibling : AreSiblings part.place q → has_sibling_at part from ≡ true
-  list_has_sibling h =
-      let f = Contains-map_back (λ (n : Neighbour). n.at) part.neighbours from (valid.touching.all from part.place q here there touch) in
-      let at : slice_get (mesh_of p) from ≡ Some f.0.place = subst (λ k. slice_get (mesh_of p) k ≡ Some f.0.place) f.2 (valid.placed f.0 f.1) in
-      let same : q ≡ f.0.place = same_Some q f.0.place (sym there ∙ at) in
-      let g = Contains-get part.neighbours f.0 f.1 in
-      let test = and_from (f.0.at == from) (are_siblings part.place f.0.place) (eq-eqb f.0.at from f.2) (AreSiblings-test part.place f.0.place (subst (λ x. AreSiblings part.place x) same h)) in
-      any_passes_from_place (λ (n : Neighbour). (n.at == from) && are_siblings part.place n.place) part.neighbours g.0 f.0 g.1 test
+module _ (grid : Grid) (mesh : List Cube) (i : ℕ) (part : LeafPart) (valid : IsPartAt grid mesh i part) (here : slice_get mesh i ≡ Some part.place) (from : ℕ) (q : Cube) (there : slice_get mesh from ≡ Some q) (touch : Touches grid part.place q) where
+  -- it is among the siblings where it is one
+  has_sibling_at-tests : has_sibling_at part from ≡ are_siblings part.place q
+  has_sibling_at-tests =
+      let test : ℕ → Bool = λ j. j == from in
+      let is : has_sibling part.place (slice_get mesh from) ≡ are_siblings part.place q = ap (has_sibling part.place) there in
+      let same : (j : ℕ) → test j ≡ true → has_sibling part.place (slice_get mesh j) ≡ are_siblings part.place q = λ j e. ap (λ k. has_sibling part.place (slice_get mesh k)) (eqb-true j from e) ∙ is in
+      let listed = valid.touching.all from part.place q here there touch in
+      let found : list_any test part.neighbours ≡ true = list_any_at test part.neighbours listed.0 from listed.1 (eq-eqb _ from listed.2) in
+      ap (list_any test) valid.siblings ∙ (any-filter_same test (λ j. has_sibling part.place (slice_get mesh j)) (are_siblings part.place q) same part.neighbours ∙ (ap (λ b. are_siblings part.place q && b) found ∙ and-true (are_siblings part.place q)))
 
   -- what is asked is enough ..
   pub asked_jump : (value : ℕ) → value - 1 ≤ asked part from value
@@ -87,7 +80,7 @@ module _ (p : AdaptProblem) (i : ℕ) (part : LeafPart) (valid : IsPartAt p i pa
 
   pub asked_siblings : (value : ℕ) → AreSiblings part.place q → min value part.place.level ≤ asked part from value
   asked_siblings value h =
-      let is : asked part from value ≡ max (value - 1) (min value part.place.level) = ap (λ b. max (value - 1) (cond b (min value part.place.level) 0)) (list_has_sibling h) in
+      let is : asked part from value ≡ max (value - 1) (min value part.place.level) = ap (λ b. max (value - 1) (cond b (min value part.place.level) 0)) (has_sibling_at-tests ∙ AreSiblings-test part.place q h) in
       omega (arith, is)
 
   -- .. and no more than that
@@ -96,7 +89,7 @@ module _ (p : AdaptProblem) (i : ℕ) (part : LeafPart) (valid : IsPartAt p i pa
       elim (cases_Bool (has_sibling_at part from)) [
         | inl is ↦
             let e : asked part from value ≡ max (value - 1) (min value part.place.level) = ap (λ b. max (value - 1) (cond b (min value part.place.level) 0)) is in
-            omega (arith, e, siblings (sibling_from_list is))
+            omega (arith, e, siblings (AreSiblings-from_test part.place q (sym has_sibling_at-tests ∙ is)))
         | inr none ↦
             let e : asked part from value ≡ max (value - 1) 0 = ap (λ b. max (value - 1) (cond b (min value part.place.level) 0)) none in
             omega (arith, e)

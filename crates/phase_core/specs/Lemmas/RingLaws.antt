@@ -8,9 +8,9 @@ use Rattle.std.proofs.lemmas.List.Sums.{sum_by-append, sum_by-cons}
 use Rattle.std.proofs.lemmas.Option.{slice_get_within, get_or_from_slice_get}
 use Rattle.phase_core.specs.declared.envelope.Envelope.{Envelope}
 use Rattle.phase_core.specs.Machine.{start_flight}
-use Rattle.phase_core.specs.Starts.{start_flight-suc}
-use Rattle.phase_core.specs.Parts.{map-slice_set_same}
-use Rattle.phase_core.specs.Ring.{RingPlace, RingNote, Begin, Token, Answer, RingProblem, ring_problem, ring_react, ring_weigh, ring_weight, IsFromBelow, IsWithin, IsRing, RingHolds, ring_start, ring_start_weight}
+use Rattle.phase_core.specs.Lemmas.Starts.{start_flight-suc}
+use Rattle.phase_core.specs.Lemmas.Lookups.{map-slice_set_same}
+use Rattle.phase_core.specs.Lemmas.Ring.{RingPlace, RingNote, Begin, Token, Answer, RingProblem, ring_problem, ring_react, ring_weigh, ring_weight, IsFromBelow, IsWithin, IsRing, RingHolds, ring_start, ring_start_weight}
 
 -- the cell that stands at a place meets what all meet
 at_place : (P : RingPlace → Type 0) (cells : List RingPlace) (at : ℕ) (cell : RingPlace) → slice_get cells at ≡ Some cell → All P cells → P cell

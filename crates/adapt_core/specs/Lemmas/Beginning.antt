@@ -8,17 +8,17 @@ use Rattle.std.proofs.lemmas.List.Sums.{sum_by-append, sum_by-cons}
 use Rattle.std.proofs.lemmas.Option.{slice_get_cases}
 use Rattle.phase_core.specs.declared.envelope.Envelope.{Envelope}
 use Rattle.phase_core.specs.Machine.{start_flight}
-use Rattle.phase_core.specs.Starts.{start_flight-suc}
+use Rattle.phase_core.specs.Lemmas.Starts.{start_flight-suc}
 use Rattle.leaf_set.specs.LevelRules.{IsSolution}
 use Rattle.adapt_core.specs.declared.adapt_msg.AdaptMsg.{AdaptMsg}
 use Rattle.adapt_core.specs.declared.adapt_msg.AdaptMsg.TheVariants.{Start}
 use Rattle.adapt_core.specs.Cells.{LeafPart, LeafState, AdaptProblem}
 use Rattle.adapt_core.specs.React.{adapt_start}
 use Rattle.adapt_core.specs.Problem.{mesh_of, wishes_of, IsAdaptProblem, AdaptBegins, unopened}
-use Rattle.adapt_core.specs.Holds.{starts_to, starts_due, IsTold, AdaptHolds, degree, cell_weight, levels_in, adapt_weight, adapt_start_weight, touching_pairs}
-use Rattle.adapt_core.specs.Lookups.{get-map, get-map_back}
-use Rattle.adapt_core.specs.Keeping.{start_at}
-use Rattle.adapt_core.specs.Weighing.{level_any}
+use Rattle.adapt_core.specs.Holds.{starts_to, starts_due, IsTold, AdaptHolds, degree, levels_left, cell_weight, levels_in, adapt_weight, adapt_start_weight, touching_pairs}
+use Rattle.phase_core.specs.Lemmas.Lookups.{get-map, get-map_back}
+use Rattle.adapt_core.specs.Lemmas.Keeping.{start_at}
+use Rattle.adapt_core.specs.Lemmas.Weighing.{level_any}
 
 parts-unopened : (parts : List LeafPart) → map (λ (c : LeafState). c.part) (map unopened parts) ≡ parts
 parts-unopened [] = refl
@@ -109,31 +109,19 @@ module _ (p : AdaptProblem) (valid : IsAdaptProblem p) where
 pub start_holds : (p : AdaptProblem) (cells : List LeafState) → AdaptBegins p cells → AdaptHolds p cells (start_flight adapt_start (length cells))
 start_holds p cells begins = subst (λ xs. AdaptHolds p xs (start_flight adapt_start (length xs))) (sym begins.begun) (holds_first p begins.problem)
 
-weights_first : (parts : List LeafPart) → sum_by cell_weight (map unopened parts) ≡ sum_by (λ part. 1 + degree part + (part.place.level + 1 - (part.place.level - 1)) * degree part) parts
-weights_first [] = refl
-weights_first (part ∷ parts) =
-    let one : LeafPart → ℕ = λ x. 1 + degree x + (x.place.level + 1 - (x.place.level - 1)) * degree x in
-    let l : sum_by cell_weight (unopened part ∷ map unopened parts) ≡ cell_weight (unopened part) + sum_by cell_weight (map unopened parts) = sum_by-cons cell_weight (unopened part) (map unopened parts) in
-    let r : sum_by one (part ∷ parts) ≡ one part + sum_by one parts = sum_by-cons one part parts in
-    let same : cell_weight (unopened part) ≡ one part = refl in
-    let rest : sum_by cell_weight (map unopened parts) ≡ sum_by one parts = weights_first parts in
-    omega (arith, l, r, same, rest)
-
 pub start_weighs : (p : AdaptProblem) (cells : List LeafState) → AdaptBegins p cells → adapt_weight p cells (start_flight adapt_start (length cells)) ≡ adapt_start_weight p
-start_weighs p cells begins =
-    let all : sum_by cell_weight cells ≡ adapt_start_weight p = ap (sum_by cell_weight) begins.begun ∙ weights_first p.parts in
-    omega (arith, all, levels_none (length cells))
+start_weighs p cells begins = omega (arith, ap (sum_by cell_weight) begins.begun, levels_none (length cells))
 
 -- at most a start for each leaf, and three level messages for each ordered pair that touches
 pub start_weight_most : (p : AdaptProblem) → adapt_start_weight p ≤ length p.parts + 3 * touching_pairs p
 start_weight_most p = go p.parts
   where
-    go : (parts : List LeafPart) → sum_by (λ part. 1 + degree part + (part.place.level + 1 - (part.place.level - 1)) * degree part) parts ≤ length parts + 3 * sum_by degree parts
+    go : (parts : List LeafPart) → sum_by cell_weight (map unopened parts) ≤ length parts + 3 * sum_by degree parts
     go [] = omega arith
     go (part ∷ parts) =
-        let one : LeafPart → ℕ = λ x. 1 + degree x + (x.place.level + 1 - (x.place.level - 1)) * degree x in
-        let l : sum_by one (part ∷ parts) ≡ one part + sum_by one parts = sum_by-cons one part parts in
-        let r : sum_by degree (part ∷ parts) ≡ degree part + sum_by degree parts = sum_by-cons degree part parts in
-        let two : (part.place.level + 1 - (part.place.level - 1)) * degree part ≤ 2 * degree part = mul-le-mul_right (degree part) (let few : part.place.level + 1 - (part.place.level - 1) ≤ 2 = omega arith in few) in
-        let rest : sum_by one parts ≤ length parts + 3 * sum_by degree parts = go parts in
-        omega (arith, l, r, two, rest)
+        let first_cell : LeafState = unopened part in
+        let weights : sum_by cell_weight (first_cell ∷ map unopened parts) ≡ cell_weight first_cell + sum_by cell_weight (map unopened parts) = sum_by-cons cell_weight first_cell (map unopened parts) in
+        let degrees : sum_by degree (part ∷ parts) ≡ degree part + sum_by degree parts = sum_by-cons degree part parts in
+        let one : cell_weight first_cell ≡ 1 + degree part + levels_left first_cell * degree part = refl in
+        let two : levels_left first_cell * degree part ≤ 2 * degree part = mul-le-mul_right (degree part) (let few : levels_left first_cell ≤ 2 = omega arith in few) in
+        omega (arith, weights, degrees, one, two, go parts)

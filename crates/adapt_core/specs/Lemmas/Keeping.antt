@@ -6,19 +6,18 @@ use Rattle.std.proofs.lemmas.Option.{same_Some}
 use Rattle.std.proofs.lemmas.List.Elements.{All-append, All-tail, All-head, All-nil, All-map, All-weaker, Contains-get_or, Contains-append_left, Contains-append_right}
 use Rattle.std.proofs.lemmas.List.Sums.{sum_by-append, sum_by-cons}
 use Rattle.phase_core.specs.declared.envelope.Envelope.{Envelope}
-use Rattle.phase_core.specs.Parts.{map-slice_set_same}
+use Rattle.phase_core.specs.Lemmas.Lookups.{map-slice_set_same}
 use Rattle.block_index.specs.Touching.{Touches}
 use Rattle.leaf_set.specs.LevelRules.{IsSolution}
-use Rattle.adapt_core.specs.declared.neighbour.Neighbour.{Neighbour}
 use Rattle.adapt_core.specs.declared.adapt_msg.AdaptMsg.{AdaptMsg}
 use Rattle.adapt_core.specs.declared.adapt_msg.AdaptMsg.TheVariants.{Start, Level}
 use Rattle.adapt_core.specs.Cells.{LeafPart, LeafState, AdaptProblem}
 use Rattle.adapt_core.specs.React.{tells, adapt_react}
 use Rattle.adapt_core.specs.Problem.{mesh_of, wishes_of}
 use Rattle.adapt_core.specs.Holds.{is_start, starts_to, starts_due, HasAsked, IsTold, AdaptHolds}
-use Rattle.adapt_core.specs.Lookups.{get-set_same, get-set_other, get-set_cases, Contains-map, Contains-cons_cases}
-use Rattle.adapt_core.specs.Leaves.{part_at, neighbour_touches, touching_listed}
-use Rattle.adapt_core.specs.Steps.{Takes, IsStep, step}
+use Rattle.phase_core.specs.Lemmas.Lookups.{get-set_same, get-set_other, get-set_cases, Contains-map, Contains-cons_cases}
+use Rattle.adapt_core.specs.Lemmas.Leaves.{part_at, neighbour_touches, touching_listed}
+use Rattle.adapt_core.specs.Lemmas.Handlings.{Takes, IsHandling, handling}
 
 -- what an envelope adds to the count of the starts to a position
 abbrev pub start_at : ℕ → Envelope AdaptMsg → ℕ
@@ -28,12 +27,12 @@ abbrev start_any : Envelope AdaptMsg → ℕ
 start_any e = cond (is_start e.msg) 1 0
 
 -- telling is no start
-pub starts_to-tells : (i index level : ℕ) (ns : List Neighbour) → starts_to i (map (λ n. record { to = n.at; msg = Level index level }) ns) ≡ 0
+pub starts_to-tells : (i index level : ℕ) (js : List ℕ) → starts_to i (map (λ j. record { to = j; msg = Level index level }) js) ≡ 0
 starts_to-tells i index level [] = refl
-starts_to-tells i index level (n ∷ ns) =
-    let told : Neighbour → Envelope AdaptMsg = λ x. record { to = x.at; msg = Level index level } in
-    let none : start_at i (told n) ≡ 0 = cond-false {A = ℕ} ((n.at == i) && false) 1 0 (and_right (n.at == i) false refl) in
-    omega (arith, sum_by-cons (start_at i) (told n) (map told ns), none, starts_to-tells i index level ns)
+starts_to-tells i index level (j ∷ js) =
+    let told : ℕ → Envelope AdaptMsg = λ x. record { to = x; msg = Level index level } in
+    let none : start_at i (told j) ≡ 0 = cond-false {A = ℕ} ((j == i) && false) 1 0 (and_right (j == i) false refl) in
+    omega (arith, sum_by-cons (start_at i) (told j) (map told js), none, starts_to-tells i index level js)
 
 starts_to-head : (i : ℕ) (e : Envelope AdaptMsg) (rest : List (Envelope AdaptMsg)) → starts_to i (e ∷ rest) ≡ start_at i e + starts_to i rest
 starts_to-head i e rest = sum_by-cons (start_at i) e rest
@@ -61,7 +60,7 @@ start_waits p cells e rest c holds here is = go c.started refl
         absurd (omega (arith, due, none, one, starts_to-head e.to e rest))
 
 module _ (p : AdaptProblem) (cells : List LeafState) (e : Envelope AdaptMsg) (rest : List (Envelope AdaptMsg)) (c new : LeafState) (sent : List (Envelope AdaptMsg))
-    (holds : AdaptHolds p cells (e ∷ rest)) (here : slice_get cells e.to ≡ Some c) (moves : IsStep p cells e.to e.msg c new sent) where
+    (holds : AdaptHolds p cells (e ∷ rest)) (here : slice_get cells e.to ≡ Some c) (moves : IsHandling p cells e.to e.msg c new sent) where
   parts_stay : map (λ cell. cell.part) (slice_set cells e.to new) ≡ p.parts
   parts_stay = map-slice_set_same (λ (x : LeafState). x.part) cells e.to c new here moves.part ∙ holds.parts
 
@@ -149,9 +148,9 @@ module _ (p : AdaptProblem) (cells : List LeafState) (e : Envelope AdaptMsg) (re
       (b.0, d.0, b.1, d.1, touch, omega (arith, h.5, b.3))
 
   -- what the cell tells is good
-  tells_good : (n : Neighbour) → Contains new.part.neighbours n → IsTold p (slice_set cells e.to new) n.at (Level new.part.index new.level)
-  tells_good n listed =
-      let t = neighbour_touches p (slice_set cells e.to new) holds.problem parts_stay e.to new here_after n listed in
+  tells_good : (j : ℕ) → Contains new.part.neighbours j → IsTold p (slice_set cells e.to new) j (Level new.part.index new.level)
+  tells_good j listed =
+      let t = neighbour_touches p (slice_set cells e.to new) holds.problem parts_stay e.to new here_after j listed in
       let index : new.part.index ≡ e.to = (part_at p (slice_set cells e.to new) holds.problem parts_stay e.to new here_after).index in
       (new, t.0, subst (λ k. slice_get (slice_set cells e.to new) k ≡ Some new) (sym index) here_after, t.1, t.2, omega arith)
 
@@ -160,7 +159,7 @@ module _ (p : AdaptProblem) (cells : List LeafState) (e : Envelope AdaptMsg) (re
       let Good : Envelope AdaptMsg → Type 0 = λ x. IsTold p (slice_set cells e.to new) x.to x.msg in
       let Was : Envelope AdaptMsg → Type 0 = λ x. IsTold p cells x.to x.msg in
       let old : All Good rest = All-weaker Was Good (λ x h. told_after x.to x.msg h) rest (All-tail Was e rest holds.messages) in
-      let say : Neighbour → Envelope AdaptMsg = λ n. record { to = n.at; msg = Level new.part.index new.level } in
+      let say : ℕ → Envelope AdaptMsg = λ j. record { to = j; msg = Level new.part.index new.level } in
       let all : All Good (tells new.part new.level) = All-map Good say new.part.neighbours (λ k d within. tells_good (get_or new.part.neighbours k d) (Contains-get_or new.part.neighbours k d within)) in
       let fresh : All Good sent = elim moves.sends [ inl none ↦ subst (All Good) (sym none) (All-nil Good) | inr told ↦ subst (All Good) (sym told) all ] in
       All-append Good rest sent old fresh
@@ -204,10 +203,10 @@ module _ (p : AdaptProblem) (cells : List LeafState) (e : Envelope AdaptMsg) (re
         | inl told ↦
             let after = get-set_other cells e.to j new other ∙ there in
             let index : new.part.index ≡ e.to = (part_at p (slice_set cells e.to new) holds.problem parts_stay e.to new here_after).index in
-            let l = touching_listed p (slice_set cells e.to new) holds.problem parts_stay e.to j new d here_after after touch in
-            let say : Neighbour → Envelope AdaptMsg = λ n. record { to = n.at; msg = Level new.part.index new.level } in
-            let said : Contains sent (say l.0) = subst (λ xs. Contains xs (say l.0)) (sym told) (Contains-map say new.part.neighbours l.0 l.1) in
-            let is : say l.0 ≡ record { to = j; msg = Level e.to new.level } = ap (λ k. record { to = k; msg = Level new.part.index new.level }) l.2 ∙ ap (λ k. record { to = j; msg = Level k new.level }) index in
+            let listed = touching_listed p (slice_set cells e.to new) holds.problem parts_stay e.to j new d here_after after touch in
+            let say : ℕ → Envelope AdaptMsg = λ j. record { to = j; msg = Level new.part.index new.level } in
+            let said : Contains sent (say j) = subst (λ xs. Contains xs (say j)) (sym told) (Contains-map say new.part.neighbours j listed) in
+            let is : say j ≡ record { to = j; msg = Level e.to new.level } = ap (λ k. record { to = j; msg = Level k new.level }) index in
             inr (Contains-append_right rest sent (record { to = j; msg = Level e.to new.level }) (subst (Contains sent) is said))
         | inr same ↦
             let touched : Touches p.grid c.part.place d.part.place = subst (λ q. Touches p.grid q d.part.place) same_place touch in
@@ -240,8 +239,8 @@ module _ (p : AdaptProblem) (cells : List LeafState) (e : Envelope AdaptMsg) (re
             ]
       ]
 
-  pub step_keeps : AdaptHolds p (slice_set cells e.to new) (rest ++ sent)
-  step_keeps =
+  pub handling_keeps : AdaptHolds p (slice_set cells e.to new) (rest ++ sent)
+  handling_keeps =
       record {
         problem = holds.problem;
         parts = parts_stay;
@@ -253,10 +252,10 @@ module _ (p : AdaptProblem) (cells : List LeafState) (e : Envelope AdaptMsg) (re
         told = told_all;
       }
 
-pub step_of : (p : AdaptProblem) (cells : List LeafState) (e : Envelope AdaptMsg) (rest : List (Envelope AdaptMsg)) (c : LeafState) → AdaptHolds p cells (e ∷ rest) → slice_get cells e.to ≡ Some c → IsStep p cells e.to e.msg c (adapt_react p e.to c e.msg).cell (adapt_react p e.to c e.msg).sent
-step_of p cells e rest c holds here =
-    step p cells holds.problem holds.parts holds.high e.to c here e.msg (start_waits p cells e rest c holds here) (holds.opening e.to c here) (All-head (λ x. IsTold p cells x.to x.msg) e rest holds.messages)
+pub handling_of : (p : AdaptProblem) (cells : List LeafState) (e : Envelope AdaptMsg) (rest : List (Envelope AdaptMsg)) (c : LeafState) → AdaptHolds p cells (e ∷ rest) → slice_get cells e.to ≡ Some c → IsHandling p cells e.to e.msg c (adapt_react p e.to c e.msg).cell (adapt_react p e.to c e.msg).sent
+handling_of p cells e rest c holds here =
+    handling p cells holds.problem holds.parts holds.high e.to c here e.msg (start_waits p cells e rest c holds here) (holds.opening e.to c here) (All-head (λ x. IsTold p cells x.to x.msg) e rest holds.messages)
 
 pub keeps : (p : AdaptProblem) (cells : List LeafState) (e : Envelope AdaptMsg) (rest : List (Envelope AdaptMsg)) (c : LeafState) → AdaptHolds p cells (e ∷ rest) → slice_get cells e.to ≡ Some c → AdaptHolds p (slice_set cells e.to (adapt_react p e.to c e.msg).cell) (rest ++ (adapt_react p e.to c e.msg).sent)
 keeps p cells e rest c holds here =
-    step_keeps p cells e rest c (adapt_react p e.to c e.msg).cell (adapt_react p e.to c e.msg).sent holds here (step_of p cells e rest c holds here)
+    handling_keeps p cells e rest c (adapt_react p e.to c e.msg).cell (adapt_react p e.to c e.msg).sent holds here (handling_of p cells e rest c holds here)

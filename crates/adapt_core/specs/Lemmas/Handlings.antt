@@ -14,8 +14,8 @@ use Rattle.adapt_core.specs.Cells.{LeafState, AdaptProblem}
 use Rattle.adapt_core.specs.React.{asked, tells, raised, opened, adapt_react}
 use Rattle.adapt_core.specs.Problem.{mesh_of, wishes_of, openings_of, IsAdaptProblem}
 use Rattle.adapt_core.specs.Holds.{is_start, starts_due, HasAsked, IsTold}
-use Rattle.adapt_core.specs.Siblings.{asked_jump, asked_siblings, asked_most}
-use Rattle.adapt_core.specs.Leaves.{part_at, get_place, opening_at}
+use Rattle.adapt_core.specs.Lemmas.Siblings.{asked_jump, asked_siblings, asked_most}
+use Rattle.adapt_core.specs.Lemmas.Leaves.{part_at, get_place, opening_at}
 
 -- what the message asks, the cell has afterwards
 abbrev pub Takes : AdaptProblem → List LeafState → LeafState → LeafState → AdaptMsg → Type 0
@@ -23,7 +23,7 @@ Takes p cells c new Start = Unit {0}
 Takes p cells c new (Level from value) = (b : LeafState) → slice_get cells from ≡ Some b → Touches p.grid b.part.place c.part.place → HasAsked b.part new.part value new.level
 
 -- the cell `to` handles the message, becomes `new`, and sends `sent`
-pub record IsStep (p : AdaptProblem) (cells : List LeafState) (to : ℕ) (msg : AdaptMsg) (c new : LeafState) (sent : List (Envelope AdaptMsg)) : Type 0 where
+pub record IsHandling (p : AdaptProblem) (cells : List LeafState) (to : ℕ) (msg : AdaptMsg) (c new : LeafState) (sent : List (Envelope AdaptMsg)) : Type 0 where
   pub part : new.part ≡ c.part
   pub rises : c.level ≤ new.level
   pub high : (levels : List ℕ) → IsSolution p.grid (mesh_of p) (wishes_of p) levels → new.level ≤ slice_index levels to
@@ -40,8 +40,8 @@ own_rules p levels h = record { range = h.range; wish = h.wish; lone = h.lone }
 module _ (p : AdaptProblem) (cells : List LeafState) (valid : IsAdaptProblem p) (parts : map (λ cell. cell.part) cells ≡ p.parts)
     (high : (levels : List ℕ) → IsSolution p.grid (mesh_of p) (wishes_of p) levels → (i : ℕ) (c : LeafState) → slice_get cells i ≡ Some c → c.level ≤ slice_index levels i)
     (to : ℕ) (c : LeafState) (here : slice_get cells to ≡ Some c) where
-  step_start : c.started ≡ false → IsStep p cells to Start c (opened c) (tells c.part (opened c).level)
-  step_start waits =
+  handling_start : c.started ≡ false → IsHandling p cells to Start c (opened c) (tells c.part (opened c).level)
+  handling_start waits =
       record {
         part = refl;
         rises = omega arith;
@@ -67,12 +67,12 @@ module _ (p : AdaptProblem) (cells : List LeafState) (valid : IsAdaptProblem p) 
       let below : b.level ≤ slice_index levels from = high levels h from b told.2 in
       let jump : slice_index levels from - 1 ≤ slice_index levels to = h.jump to from c.part.place b.part.place at there touch in
       let under : value ≤ b.level = told.5 in
-      asked_most p to c.part (part_at p cells valid parts to c here) at from b.part.place there touch value (slice_index levels to) (omega arith) (λ s.
+      asked_most p.grid (mesh_of p) to c.part (part_at p cells valid parts to c here) at from b.part.place there touch value (slice_index levels to) (omega arith) (λ s.
       let least : min (slice_index levels from) c.part.place.level ≤ slice_index levels to = h.siblings to from c.part.place b.part.place at there s in
       omega arith)
 
-  step_level : (from value : ℕ) → (c.started ≡ true → c.part.opening ≤ c.level) → IsTold p cells to (Level from value) → IsStep p cells to (Level from value) c (adapt_react p to c (Level from value)).cell (adapt_react p to c (Level from value)).sent
-  step_level from value has told =
+  handling_level : (from value : ℕ) → (c.started ≡ true → c.part.opening ≤ c.level) → IsTold p cells to (Level from value) → IsHandling p cells to (Level from value) c (adapt_react p to c (Level from value)).cell (adapt_react p to c (Level from value)).sent
+  handling_level from value has told =
       let asks : ℕ = asked c.part from value in
       let new : LeafState = raised c from value in
       let goes : Bool = c.started && nat_lt c.level new.level in
@@ -101,11 +101,11 @@ module _ (p : AdaptProblem) (cells : List LeafState) (valid : IsAdaptProblem p) 
             let from_at = get_place p cells valid parts from b there in
             let part = part_at p cells valid parts to c here in
             record {
-              jump = omega (arith, asked_jump p to c.part part at from b.part.place from_at back value);
-              siblings = λ s. omega (arith, asked_siblings p to c.part part at from b.part.place from_at back value s);
+              jump = omega (arith, asked_jump p.grid (mesh_of p) to c.part part at from b.part.place from_at back value);
+              siblings = λ s. omega (arith, asked_siblings p.grid (mesh_of p) to c.part part at from b.part.place from_at back value s);
             };
       }
 
-  pub step : (msg : AdaptMsg) → (is_start msg ≡ true → c.started ≡ false) → (c.started ≡ true → c.part.opening ≤ c.level) → IsTold p cells to msg → IsStep p cells to msg c (adapt_react p to c msg).cell (adapt_react p to c msg).sent
-  step Start waits has told = step_start (waits refl)
-  step (Level from value) waits has told = step_level from value has told
+  pub handling : (msg : AdaptMsg) → (is_start msg ≡ true → c.started ≡ false) → (c.started ≡ true → c.part.opening ≤ c.level) → IsTold p cells to msg → IsHandling p cells to msg c (adapt_react p to c msg).cell (adapt_react p to c msg).sent
+  handling Start waits has told = handling_start (waits refl)
+  handling (Level from value) waits has told = handling_level from value has told

@@ -1,0 +1,2 @@
+-- Definitions that serve the proof of `opening`.
+pub mod OwnLevel
