@@ -6,3 +6,6 @@ pub mod Ranks
 pub mod Widths
 pub mod Equality
 pub mod Descendants
+pub mod Beyond
+pub mod Meetings
+pub mod Moved

@@ -5,9 +5,12 @@
 //! that the order is total, are the public functions of `laws`, whose contracts are the laws.
 #![tactic(auto)]
 
+mod axis;
+mod axis_laws;
 mod containment;
 mod domain;
 mod laws;
+mod next_place;
 mod packing;
 mod place;
 mod standing;
@@ -16,12 +19,15 @@ mod tests;
 mod touching;
 mod wish;
 
+pub use axis::{Stretch, moved_inside, step_along, stretches_meet};
+pub use axis_laws::{coordinates_moved_inside, meeting_stretches, steps_along_an_axis};
 pub use containment::{covers, inside};
 pub use domain::Domain;
 pub use laws::{
     ancestors_stand_first, contained_places_stand_together, order_goes_in_steps, order_is_total,
     packing_is_one_to_one, touching_is_symmetric,
 };
+pub use next_place::place_beyond;
 pub use place::Place;
 pub use standing::order;
 pub use touching::touch;
