@@ -167,3 +167,11 @@ made_is (Some c) p q h f e k = ap Some (f ∙ e)
 pub IsNext-at : (n m : ℕ) (v w : Bool) (s t : ℤ) (x y q : ℕ) → IsNext n v s x q → n ≡ m → v ≡ w → s ≡ t → x ≡ y → IsNext m w t y q
 IsNext-at n m v w s t x y q h e f g k =
     subst (λ z. IsNext m w t z q) k (subst (λ z. IsNext m w z x q) g (subst (λ z. IsNext m z s x q) f (subst (λ z. IsNext z v s x q) e h)))
+
+-- a step as the code reads it
+pub step_read : (r s : ℤ) → r ≡ s → IsUnitStep s → s ≡ to_z w8 (of_z w8 r)
+step_read r s e h = subst (λ t. s ≡ to_z w8 (of_z w8 t)) (sym e) (at_steps (λ t. t ≡ to_z w8 (of_z w8 t)) refl refl refl s h)
+
+-- no step goes nowhere else
+pub IsNext-none_self : (n : ℕ) (wraps : Bool) (x q : ℕ) → x < n → IsNext n wraps (pos 0) x q → q ≡ x
+IsNext-none_self n wraps x q h k = IsNext-one n wraps (pos 0) x q x k (record { inside = h; at = inl (omega (arith, ints)) })

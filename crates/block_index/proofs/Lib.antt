@@ -9,3 +9,4 @@ pub mod Descendants
 pub mod Beyond
 pub mod Meetings
 pub mod Moved
+pub mod Reaching

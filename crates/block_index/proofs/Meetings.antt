@@ -121,15 +121,7 @@ pub Touches-sym : (grid : Grid) (a c : Cube) → Touches grid a c → Touches gr
 Touches-sym grid a c h =
     Touches-BoxesMeet grid c a (λ e. h.apart (sym e)) (BoxesMeet-sym grid a c (BoxesMeet-Touches grid a c h))
 
--- ---- the axis in units of level 6, and in places of a level
-
--- the length of an axis
+-- the length of an axis in units of level 6, by that in places of level l
 pub axis_length : (trees l : ℕ) → l ≤ 6 → trees * 64 ≡ trees * 2 ^ l * width l
 axis_length trees l h =
     omega (arith, ap (λ q. trees * q) (ap (λ k. 2 ^ k) (let e : 6 ≡ l + (6 - l) = omega arith in e) ∙ pow-add 2 l (6 - l)))
-
--- what meets in places of level l meets in units of level 6
-pub MeetsOnAxis-level : (trees : ℕ) (wraps : Bool) (l a w c v : ℕ) → l ≤ 6 → MeetsAround (trees * 2 ^ l) wraps a w c v → MeetsOnAxis trees wraps (a * width l) (w * width l) (c * width l) (v * width l)
-MeetsOnAxis-level trees wraps l a w c v h m =
-    subst (λ n. MeetsAround n wraps (a * width l) (w * width l) (c * width l) (v * width l)) (sym (axis_length trees l h))
-    (MeetsAround-scale (trees * 2 ^ l) wraps (width l) a w c v m)

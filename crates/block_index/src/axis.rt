@@ -71,7 +71,11 @@ fn after_start(length: u32, periodic: bool, x: u32) -> u32
     ensures moved { result ≡ moved periodic length (pos x) }
     ensures inside { result < length }
 {
-    if periodic { x % length } else { x.min(length - 1) }
+    if periodic {
+        x % length
+    } else {
+        x.min(length - 1)
+    }
 }
 
 /// The coordinate that -1 - `x` is moved to, which is before the axis.

@@ -1,8 +1,9 @@
-//! Places of an array of octrees: a level and three coordinates, their order, and which of them touch.
+//! Places of an array of octrees: a level and three coordinates, their order, which of them touch, and the place one
+//! step from another. Also the arithmetic along an axis that these stand on.
 //!
 //! Every call is total within its conditions and takes no memory. Contracts see a place as a `Cube` and a domain
-//! as a `Grid`; these and the definitions of the order and of touching stand in `specs/`. Laws about them, such as
-//! that the order is total, are the public functions of `laws`, whose contracts are the laws.
+//! as a `Grid`; these and the definitions of axes, the order and touching stand in `specs/`. Laws about them, such as
+//! that the order is total, are the public functions of `laws` and `axis_laws`, whose contracts are the laws.
 #![tactic(auto)]
 
 mod axis;
@@ -31,4 +32,4 @@ pub use next_place::place_beyond;
 pub use place::Place;
 pub use standing::order;
 pub use touching::touch;
-pub use wish::Wish;
+pub use wish::{Wish, greater_wish, is_coarser_wish};

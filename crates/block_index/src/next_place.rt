@@ -1,7 +1,7 @@
 //! The place one step from a place.
 
 ghost use Rattle.std.specs.Prelude.{◌≡◌, ℕ, ◌*◌, ◌^◌, ◌<◌, ◌≤◌, Some, IfSome};
-ghost use Rattle.block_index.specs.Places.{Cube, IsInside};
+ghost use Rattle.block_index.specs.Places.{Cube, IsInside, deepest, most_trees};
 ghost use Rattle.block_index.specs.Axes.{IsUnitStep, IsNext};
 ghost use Rattle.block_index.specs.Beyond.{IsBeyond};
 
@@ -32,14 +32,19 @@ pub fn place_beyond(place: Place, x: i8, y: i8, z: i8, domain: &Domain) -> Optio
 impl Axis {
     /// The coordinate one step from the place of a level at `x`.
     fn next(self, level: u8, x: u16, step: i8) -> Option<u16>
-        requires trees { self.trees ≤ 16 }
-        requires level { level ≤ 6 }
+        requires trees { self.trees ≤ most_trees }
+        requires level { level ≤ deepest }
         requires inside { x < self.trees * 2 ^ level }
         requires step { IsUnitStep step }
         ensures found { IfSome result (λ q. IsNext (self.trees * 2 ^ level) self.periodic step x q) }
         ensures every { (q : ℕ) → IsNext (self.trees * 2 ^ level) self.periodic step x q → result ≡ Some q }
     {
-        let next = step_along(u32::from(self.trees) << level, self.periodic, u32::from(x), step)?;
+        let next = step_along(
+            u32::from(self.trees) << level,
+            self.periodic,
+            u32::from(x),
+            step,
+        )?;
         Some(next as u16)
     }
 }

@@ -1,7 +1,7 @@
 //! Whether two places touch.
 
 ghost use Rattle.std.specs.Prelude.{◌≡◌, ℕ, ◌+◌, ◌-◌, ◌*◌, ◌^◌, ◌≤◌, ◌<◌, ◌⊎◌, IsTrue, ◌↔◌};
-ghost use Rattle.block_index.specs.Places.{IsInside};
+ghost use Rattle.block_index.specs.Places.{IsInside, deepest, most_trees};
 ghost use Rattle.block_index.specs.Touching.{MeetsOnAxis, Touches, width};
 
 use crate::axis::{Stretch, stretches_meet};
@@ -14,7 +14,7 @@ const TREE_WIDTH: u32 = 1 << DEEPEST;
 impl Axis {
     /// Whether two stretches of the axis share a point, on a periodic axis also across its two ends.
     fn stretches_meet(self, a: Stretch, b: Stretch) -> bool
-        requires trees { self.trees ≤ 16 }
+        requires trees { self.trees ≤ most_trees }
         requires a_end { a.start + a.width ≤ 1024 }
         requires b_end { b.start + b.width ≤ 1024 }
         ensures meet { IsTrue result ↔ MeetsOnAxis self.trees self.periodic a.start a.width b.start b.width }
@@ -25,8 +25,8 @@ impl Axis {
 
 /// Where the place at a coordinate of a level lies along an axis, in units of level 6.
 fn stretch_of(coordinate: u16, level: u8) -> Stretch
-    requires level { level ≤ 6 }
-    requires coordinate { coordinate < 16 * 2 ^ level }
+    requires level { level ≤ deepest }
+    requires coordinate { coordinate < most_trees * 2 ^ level }
     ensures start { result.start ≡ coordinate * width level }
     ensures width { result.width ≡ width level }
     ensures end { result.start + result.width ≤ 1024 }
