@@ -10,5 +10,4 @@ pub mod TouchingLeaves
 pub mod Opening
 pub mod Tiling
 pub mod LeafFaults
-pub mod Stretches
-pub mod JumpSearch
+pub mod Lemmas

@@ -1,26 +1,32 @@
 -- How jumps are found: from a leaf, the finer of a pair, by the eight places of its level around the corner that it
 -- shares with its parent. A coarser leaf that touches it covers one of them. Along each axis these are its own place
 -- and the one beyond that corner, which on a periodic axis may lie at its other end, and on another axis be missing.
-use Rattle.std.specs.Prelude.{◌≡◌, ℕ, ◌+◌, ◌*◌, ◌/◌, ◌%◌, ◌^◌, ◌<◌, ◌≤◌, ◌⊎◌, Bool, true, IsTrue, List, Some, slice_get}
+use Rattle.std.specs.Prelude.{◌≡◌, ℕ, zero, suc, ◌+◌, ◌/◌, ◌%◌, ◌<◌, ◌≤◌, ◌⊎◌, true, List, Some, slice_get, ℤ, pos, negsuc}
 use Rattle.block_index.specs.Places.{Cube, Grid, covers}
+use Rattle.block_index.specs.Beyond.{Offset, IsBeyond}
 use Rattle.block_index.specs.Touching.{Touches}
 
--- Along an axis that is n places long, u is the place next to x on the side where its parent ends too: before an
--- even x, after an odd one.
-pub record IsBeyond (n : ℕ) (wraps : Bool) (x u : ℕ) : Type 0 where
-  pub inside : u < n
-  pub at : (u + 1 ≡ x + 2 * (x % 2)) ⊎ (IsTrue wraps × ((u + 1 ≡ x + 2 * (x % 2) + n) ⊎ (u + 1 + n ≡ x + 2 * (x % 2))))
+-- the step out of a half of the parent, 0 for the lower and 1 for the upper: to the side where the parent ends too
+abbrev pub outward : ℕ → ℤ
+outward zero = negsuc 0
+outward (suc n) = pos 1
 
--- u is x itself, numbered 0, or the place beyond, numbered 1
-abbrev pub IsStep : ℕ → Bool → ℕ → ℕ → ℕ → Type 0
-IsStep n wraps x k u = ((k ≡ 0) × (u ≡ x)) ⊎ ((k ≡ 1) × IsBeyond n wraps x u)
+-- the step from the place at x along an axis: none for 0, the one out of the parent for 1
+abbrev pub corner_step : ℕ → ℕ → ℤ
+corner_step x zero = pos 0
+corner_step x (suc k) = outward (x % 2)
 
--- u is the place numbered s around the corner that a shares with its parent: x fastest, then y, then z
-pub record IsAroundCorner (grid : Grid) (a : Cube) (s : ℕ) (u : Cube) : Type 0 where
-  pub level : u.level ≡ a.level
-  pub x : IsStep (grid.trees_x * 2 ^ a.level) grid.wraps_x a.x (s % 2) u.x
-  pub y : IsStep (grid.trees_y * 2 ^ a.level) grid.wraps_y a.y (s / 2 % 2) u.y
-  pub z : IsStep (grid.trees_z * 2 ^ a.level) grid.wraps_z a.z (s / 4) u.z
+-- the offset from a to the place numbered s around the corner that a shares with its parent: x fastest, then y, then z
+abbrev pub corner_offset : Cube → ℕ → Offset
+corner_offset a s = record {
+  x = corner_step a.x (s % 2);
+  y = corner_step a.y (s / 2 % 2);
+  z = corner_step a.z (s / 4);
+}
+
+-- u is that place
+abbrev pub IsAroundCorner : Grid → Cube → ℕ → Cube → Type 0
+IsAroundCorner grid a s u = IsBeyond grid a (corner_offset a s) u
 
 -- the leaf c at j covers u from more than one level up
 pub record IsFarOver (mesh : List Cube) (u : Cube) (j : ℕ) (c : Cube) : Type 0 where
