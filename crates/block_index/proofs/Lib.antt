@@ -1,3 +1,4 @@
+-- The lemmas of this crate by subject.
 pub mod Comparing
 pub mod Covering
 pub mod Halves

@@ -1,3 +1,4 @@
+-- The definitions of this crate, in the order in which one stands on another.
 pub mod Meshes
 pub mod LevelRules
 pub mod NextMesh

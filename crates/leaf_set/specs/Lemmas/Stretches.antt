@@ -1,15 +1,15 @@
--- The line of places of level 6 in order, on which a place takes a stretch: those that it covers.
+-- The line of places of the deepest level in order, on which a place takes a stretch: those that it covers.
 use Rattle.std.specs.Prelude.{ℕ, ◌+◌, ◌-◌, ◌/◌, ◌^◌, ◌≤◌}
-use Rattle.block_index.specs.Places.{Cube, Grid, IsInside}
-use Rattle.block_index.specs.Order.{rank}
+use Rattle.block_index.specs.Places.{Cube, Grid, IsInside, deepest}
+use Rattle.block_index.specs.Order.{rank, level_count}
 
--- where the stretch of a place begins: seven ranks, one for each level, stand at each spot of the line
+-- where the stretch of a place begins: at each spot of the line there is a rank for each level
 abbrev pub beginning : Cube → ℕ
-beginning c = rank c / 7
+beginning c = rank c / level_count
 
 -- where the stretch ends and the next may begin
 abbrev pub ending : Cube → ℕ
-ending c = beginning c + 8 ^ (6 - c.level)
+ending c = beginning c + 8 ^ (deepest - c.level)
 
 -- of the places of the domain that begin at a spot or after it, c begins first
 pub record IsFirstFrom (grid : Grid) (at : ℕ) (c : Cube) : Type 0 where
