@@ -11,4 +11,5 @@ pub mod Numbers
 pub mod Additions
 pub mod NamedLeaves
 pub mod Gatherings
+pub mod TouchingLists
 pub mod NineLeaves

@@ -39,7 +39,7 @@ numbered d u v w =
     (n, omega arith, λ i. record { x = px i; y = py i; z = pz i })
 
 -- the one in the middle is no direction
-not_middle : (n : ℕ) → IsDirection (offset_numbered n) → n ≡ 13 → ⊥
+pub not_middle : (n : ℕ) → IsDirection (offset_numbered n) → n ≡ 13 → ⊥
 not_middle n w e = let m : IsDirection (offset_numbered 13) = subst (λ k. IsDirection (offset_numbered k)) e w in m.some refl refl refl
 
 -- ---- how many leaves the directions below a number may name
