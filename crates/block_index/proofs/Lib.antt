@@ -11,3 +11,4 @@ pub mod Beyond
 pub mod Meetings
 pub mod Moved
 pub mod Reaching
+pub mod Wishes

@@ -1,10 +1,10 @@
 -- Coordinates that are moved into an axis.
-use Rattle.std.proofs.Common.{◌≡◌, ℕ, ◌+◌, ◌-◌, ◌*◌, ◌/◌, ◌%◌, ◌<◌, ◌≤◌, min, Bool, true, false, inl, inr, sym, ap, ◌∙◌, subst, arith, refl, ℤ, pos, negsuc, ◌+ℤ◌, ◌≤ℤ◌}
+use Rattle.std.proofs.Common.{◌≡◌, ℕ, ◌-◌, ◌%◌, ◌<◌, ◌≤◌, Bool, true, false, inl, inr, sym, ap, ◌∙◌, arith, ℤ, pos, negsuc, ◌+ℤ◌, ◌≤ℤ◌}
 use Rattle.std.proofs.lemmas.Bool.{cases_lt, false≢true}
 use Rattle.std.proofs.lemmas.Int.{ints}
-use Rattle.std.proofs.lemmas.Nat.{mod_below, div-add-mod'}
+use Rattle.std.proofs.lemmas.Nat.{mod_below}
 use Rattle.std.proofs.Math.Nat.{mod-eq_of_lt, mod-eq-sub-mod, add-mod_right}
-use Rattle.block_index.specs.Axes.{IsUnitStep, IsNext, moved}
+use Rattle.block_index.specs.Axes.{IsNext, moved}
 
 pub moved-inside : (n : ℕ) (wraps : Bool) (p : ℤ) → 1 ≤ n → moved wraps n p < n
 moved-inside n true (pos x) h = mod_below x n h

@@ -1,5 +1,5 @@
 -- The place one step from a place.
-use Rattle.std.specs.Prelude.{◌≡◌, ℕ, ◌*◌, ◌^◌, ◌⊎◌, ℤ}
+use Rattle.std.specs.Prelude.{◌≡◌, ◌*◌, ◌^◌, ◌⊎◌, ℤ}
 use Rattle.block_index.specs.Places.{Cube, Grid}
 use Rattle.block_index.specs.Axes.{IsNext, LeavesAxis}
 

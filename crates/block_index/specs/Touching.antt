@@ -1,6 +1,6 @@
 -- Touching places: different places whose closed boxes share a point, on periodic axes after a shift by the
--- length of the domain. Lengths are in units of level 6: a place of level l is 2 ^ (6 - l) wide, a tree 64.
-use Rattle.std.specs.Prelude.{◌≡◌, ℕ, ◌+◌, ◌-◌, ◌*◌, ◌^◌, ◌≤◌, ◌⊎◌, Bool, IsTrue}
+-- length of the domain. Lengths are in places of the deepest level.
+use Rattle.std.specs.Prelude.{◌≡◌, ℕ, ◌-◌, ◌*◌, ◌^◌, Bool}
 use Rattle.block_index.specs.Places.{Cube, Grid, deepest}
 use Rattle.block_index.specs.Axes.{MeetsAround}
 

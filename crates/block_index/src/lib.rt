@@ -26,10 +26,10 @@ pub use containment::{covers, inside};
 pub use domain::Domain;
 pub use laws::{
     ancestors_stand_first, contained_places_stand_together, order_goes_in_steps, order_is_total,
-    packing_is_one_to_one, touching_is_symmetric,
+    packing_is_one_to_one, ranks_tell_wishes, touching_is_symmetric,
 };
 pub use next_place::place_beyond;
-pub use place::Place;
+pub use place::{CHILDREN, DEEPEST, MOST_TREES, Place};
 pub use standing::order;
 pub use touching::touch;
 pub use wish::{Wish, greater_wish, is_coarser_wish};

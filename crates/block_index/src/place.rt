@@ -7,10 +7,13 @@ ghost use Rattle.block_index.specs.Order.{path_of};
 use std::marker::Model;
 
 /// The deepest level that a place may have.
-pub(crate) const DEEPEST: u8 = 6;
+pub const DEEPEST: u8 = 6;
 
 /// The most trees along an axis.
-pub(crate) const MOST_TREES: u16 = 16;
+pub const MOST_TREES: u16 = 16;
+
+/// How many children a place has.
+pub const CHILDREN: u8 = 8;
 
 /// A cube of an array of octrees: its level (0 is a root, at most 6) and its coordinates, in cubes of that level.
 #[derive(Debug, Clone, Copy, PartialEq, Eq, Hash)]

@@ -2,7 +2,7 @@
 
 ghost use Rattle.std.specs.Prelude.{◌≡◌, ℕ, ◌+◌, ◌-◌, ◌*◌, ◌^◌, ◌≤◌, ◌<◌, ◌⊎◌, IsTrue, ◌↔◌};
 ghost use Rattle.block_index.specs.Places.{IsInside, deepest, most_trees};
-ghost use Rattle.block_index.specs.Touching.{MeetsOnAxis, Touches, width};
+ghost use Rattle.block_index.specs.Touching.{MeetsOnAxis, Touches, tree_width, width};
 
 use crate::axis::{Stretch, stretches_meet};
 use crate::domain::{Axis, Domain};
@@ -15,8 +15,8 @@ impl Axis {
     /// Whether two stretches of the axis share a point, on a periodic axis also across its two ends.
     fn stretches_meet(self, a: Stretch, b: Stretch) -> bool
         requires trees { self.trees ≤ most_trees }
-        requires a_end { a.start + a.width ≤ 1024 }
-        requires b_end { b.start + b.width ≤ 1024 }
+        requires a_end { a.start + a.width ≤ most_trees * tree_width }
+        requires b_end { b.start + b.width ≤ most_trees * tree_width }
         ensures meet { IsTrue result ↔ MeetsOnAxis self.trees self.periodic a.start a.width b.start b.width }
     {
         stretches_meet(u32::from(self.trees) * TREE_WIDTH, self.periodic, a, b)
@@ -29,7 +29,7 @@ fn stretch_of(coordinate: u16, level: u8) -> Stretch
     requires coordinate { coordinate < most_trees * 2 ^ level }
     ensures start { result.start ≡ coordinate * width level }
     ensures width { result.width ≡ width level }
-    ensures end { result.start + result.width ≤ 1024 }
+    ensures end { result.start + result.width ≤ most_trees * tree_width }
 {
     let width = 1 << (DEEPEST - level);
     Stretch {

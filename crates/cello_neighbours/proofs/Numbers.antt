@@ -1,6 +1,5 @@
 -- The directions by number, and how many leaves those below a number may name: 56 in all.
-use Rattle.std.proofs.Common.{◌≡◌, ℕ, zero, suc, ◌+◌, ◌-◌, ◌*◌, ◌/◌, ◌%◌, ◌<◌, ◌≤◌, ◌==◌, cond, false, refl, arith, sym, ap, ◌∙◌, subst, ℤ, pos, negsuc}
-use Rattle.std.proofs.lemmas.Bool.{cases_eq}
+use Rattle.std.proofs.Common.{◌≡◌, ℕ, zero, suc, ◌+◌, ◌-◌, ◌*◌, ◌/◌, ◌%◌, ◌<◌, ◌≤◌, ◌==◌, cond, false, refl, arith, ap, ◌∙◌, subst, ℤ}
 use Rattle.std.proofs.lemmas.Bool.Decides.{nat_tests}
 use Rattle.block_index.specs.Axes.{IsUnitStep}
 use Rattle.block_index.specs.Beyond.{Offset}

@@ -10,7 +10,7 @@ ghost use Rattle.cello_neighbours.specs.Covers.{AreAgainst, IsCover, is_near, is
 
 use crate::covers::{Cover, FinerList};
 use crate::directions::Direction;
-use block_index::Place;
+use block_index::{CHILDREN, Place};
 use leaf_set::LeafSet;
 
 /// What covers the place one step from the leaf at `b`, on a periodic axis across its ends too.
@@ -47,7 +47,7 @@ fn leaves_against(set: &LeafSet, place: Place, d: Direction) -> FinerList
     ensures against { AreAgainst set.now.places d place result }
 {
     let mut found = FinerList::new();
-    for k in 0..8 {
+    for k in 0..CHILDREN {
         if is_near(d, k) {
             found.push(set.position(place.child(k)).unwrap() as u32);
         }

@@ -1,7 +1,6 @@
 -- The closed boxes of places: which meet, and that boxes meet where a box within one of them does.
-use Rattle.std.proofs.Common.{◌≡◌, ℕ, ◌+◌, ◌-◌, ◌*◌, ◌/◌, ◌%◌, ◌^◌, ◌<◌, ◌≤◌, Bool, true, refl, sym, ap, ◌∙◌, subst, arith, inl, inr, pow_pos, mul-le-mul_right}
+use Rattle.std.proofs.Common.{◌≡◌, ℕ, ◌+◌, ◌-◌, ◌*◌, ◌/◌, ◌%◌, ◌^◌, ◌<◌, ◌≤◌, Bool, true, refl, sym, ap, ◌∙◌, subst, arith, pow_pos, mul-le-mul_right}
 use Rattle.std.proofs.lemmas.Nat.{pow-add, div-add-mod', mod_below}
-use Rattle.std.proofs.lemmas.Bool.{cases_lt}
 use Rattle.block_index.specs.Places.{Cube, Grid, child_of, covers}
 use Rattle.block_index.specs.Touching.{width, MeetsOnAxis, Touches}
 pub use Rattle.block_index.proofs.Meetings.{BoxesMeet, BoxesMeet-Touches, Touches-BoxesMeet, BoxesMeet-sym, Touches-sym}

@@ -1,10 +1,9 @@
 -- Leaves that touch a leaf from more than one level up: they are those that cover one of the places around the corner
 -- that it shares with its parent.
-use Rattle.std.proofs.Common.{◌≡◌, ℕ, ◌+◌, ◌-◌, ◌*◌, ◌/◌, ◌%◌, ◌^◌, ◌<◌, ◌≤◌, ◌↔◌, Bool, true, List, Option, None, Some, IsSome, IfSome, IsSomeAnd, ◌⊎◌, length, slice_get, get_or, sym, ap, subst, ◌∙◌, arith, inl, inr, le_refl}
-use Rattle.std.proofs.lemmas.Bool.{cases_lt, false≢true}
-use Rattle.std.proofs.lemmas.Nat.{mul-le}
+use Rattle.std.proofs.Common.{◌≡◌, ℕ, ◌+◌, ◌-◌, ◌*◌, ◌/◌, ◌%◌, ◌^◌, ◌<◌, ◌≤◌, true, List, Option, None, Some, IfSome, IsSomeAnd, ◌⊎◌, length, slice_get, get_or, sym, ap, subst, ◌∙◌, arith, inl, inr}
+use Rattle.std.proofs.lemmas.Bool.{cases_lt}
 use Rattle.std.proofs.lemmas.Option.{same_Some, slice_get_read}
-use Rattle.block_index.specs.Places.{Cube, Grid, IsDomain, IsInside, IsPlace, parent_of, covers}
+use Rattle.block_index.specs.Places.{Cube, Grid, IsDomain, IsInside, parent_of, covers}
 use Rattle.block_index.specs.Axes.{IsNext}
 use Rattle.block_index.specs.Touching.{Touches}
 use Rattle.block_index.proofs.Beyond.{IsNext-none_self}

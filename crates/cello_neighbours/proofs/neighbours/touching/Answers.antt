@@ -2,7 +2,6 @@ use Rattle.std.proofs.Common.{◌≡◌, ◌+◌, refl, sym, subst, arith}
 use Rattle.std.proofs.lemmas.Bool.{false≢true}
 use Rattle.leaf_set.specs.TouchingLeaves.{AreTouching}
 use Rattle.cello_neighbours.specs.Covers.{IsCover}
-use Rattle.cello_neighbours.specs.Lemmas.Numbering.{offset_numbered}
 use Rattle.cello_neighbours.proofs.Gatherings.{Gathers, Gathers-none, Gathers-skip, Gathers-add, AreTouching-Gathers, AreTouching-below, room}
 use Rattle.cello_neighbours.proofs.neighbours.touching.Goals as goal
 use Rattle.cello_neighbours.proofs.neighbours.touching.Goals.{in-Some, in_default}

@@ -1,5 +1,5 @@
-use Rattle.std.proofs.Common.{◌≡◌, ◌/◌, ◌%◌, ℕ, ℤ, sym, ap, ◌∙◌, subst, to_z, of_z, w8, IfSome}
-use Rattle.block_index.specs.Beyond.{Offset, IsBeyond}
+use Rattle.std.proofs.Common.{◌≡◌, ℕ, ℤ, sym, ap, ◌∙◌, subst, to_z, of_z, w8, IfSome}
+use Rattle.block_index.specs.Beyond.{IsBeyond}
 use Rattle.block_index.proofs.Beyond.{step_read}
 use Rattle.leaf_set.specs.Lemmas.JumpSearch.{corner_step, corner_offset}
 use Rattle.leaf_set.proofs.StepMeetings.{corner_step-unit}

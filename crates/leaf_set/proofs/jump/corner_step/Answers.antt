@@ -1,4 +1,4 @@
-use Rattle.std.proofs.Common.{◌≡◌, ◌%◌, sym, ap, ◌∙◌, refl, arith}
+use Rattle.std.proofs.Common.{sym, arith}
 use Rattle.leaf_set.proofs.StepMeetings.{corner_step-none, corner_step-out}
 use Rattle.leaf_set.proofs.jump.corner_step.Goals as goal
 

@@ -1,7 +1,6 @@
-use Rattle.std.proofs.Common.{◌≡◌, ℕ, ◌*◌, ◌%◌, ◌^◌, ◌≤◌, refl, sym, ap, ◌∙◌, subst, arith, w8}
+use Rattle.std.proofs.Common.{◌≡◌, ℕ, ◌*◌, ◌%◌, ◌^◌, ◌≤◌, refl, sym, ap, arith, w8}
 use Rattle.std.proofs.lemmas.Int.{to_z-of_z}
-use Rattle.std.proofs.lemmas.Option.{none-some, same_Some}
-use Rattle.block_index.specs.Axes.{IsNext}
+use Rattle.std.proofs.lemmas.Option.{none-some}
 use Rattle.block_index.proofs.Beyond.{IsNext-at, axis_length-most}
 use Rattle.block_index.proofs.domain.Axis.next.Goals as goal
 

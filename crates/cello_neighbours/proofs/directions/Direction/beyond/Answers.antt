@@ -1,4 +1,4 @@
-use Rattle.std.proofs.Common.{◌≡◌, refl, sym, ◌∙◌, subst, to_z, of_z, w8}
+use Rattle.std.proofs.Common.{refl, sym, ◌∙◌, subst}
 use Rattle.block_index.specs.Beyond.{IsBeyond}
 use Rattle.block_index.proofs.Beyond.{step_read}
 use Rattle.cello_neighbours.proofs.directions.Direction.beyond.Goals as goal

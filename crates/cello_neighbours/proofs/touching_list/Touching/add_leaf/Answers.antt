@@ -1,4 +1,4 @@
-use Rattle.cello_neighbours.proofs.Additions.{IsAdded-other, IsAdded-same}
+use Rattle.cello_neighbours.proofs.Additions.{IsAdded-other}
 use Rattle.cello_neighbours.proofs.touching_list.Touching.add_leaf.Goals as goal
 
 pub returns-then-leaf-b : goal.returns-then-leaf-b

@@ -1,4 +1,4 @@
-use Rattle.std.proofs.Common.{◌≡◌, ◌+◌, ◌∷◌, [], ◌++◌, take, length, get_or, sym, subst, arith}
+use Rattle.std.proofs.Common.{take, get_or, sym, subst, arith}
 use Rattle.std.proofs.lemmas.List.{take_more, length-take, take_all}
 use Rattle.cello_neighbours.specs.Lemmas.Added.{IsAdded}
 use Rattle.cello_neighbours.proofs.Additions.{IsAdded-none, IsAdded-push}
