@@ -1,9 +1,13 @@
+//! Laws about the order of places, touching, packing and wishes.
+
 ghost use Rattle.std.specs.Prelude.{◌≡◌, IsTrue};
 ghost use Rattle.std.specs.Cmp.{IsTotalOrder};
 ghost use Rattle.std.specs.Ordering.{nat_cmp};
 ghost use Rattle.block_index.specs.Order.{rank, IsBefore, compared_in_steps};
 ghost use Rattle.block_index.specs.Places.{Cube, Grid, IsPlace, covers, packed};
 ghost use Rattle.block_index.specs.Touching.{Touches};
+ghost use Rattle.block_index.specs.Wishes.{wish_rank};
+ghost use Rattle.block_index.specs.declared.wish.Wish.{Wish};
 
 /// The order of places is total, and places of equal rank are one place.
 pub fn order_is_total()
@@ -36,4 +40,9 @@ pub fn touching_is_symmetric()
 /// Two places with one word are one place.
 pub fn packing_is_one_to_one()
     ensures one_place { (a c : Cube) → IsPlace a → IsPlace c → packed a ≡ packed c → a ≡ c }
+{}
+
+/// Wishes of one rank are one wish.
+pub fn ranks_tell_wishes()
+    ensures one_wish { (a b : Wish) → wish_rank a ≡ wish_rank b → a ≡ b }
 {}

@@ -1,14 +1,19 @@
+//! Places: level and coordinates, parents and children, paths.
+
 ghost use Rattle.std.specs.Prelude.{◌≡◌, ℕ, ◌+◌, ◌-◌, ◌*◌, ◌/◌, ◌%◌, ◌^◌, ◌≤◌, ◌<◌, IsSome, IsNone, IfSome, ◌↔◌};
-ghost use Rattle.block_index.specs.Places.{IsPlace, child_of, parent_of, child_number};
+ghost use Rattle.block_index.specs.Places.{IsPlace, deepest, child_of, parent_of, child_number};
 ghost use Rattle.block_index.specs.Order.{path_of};
 
 use std::marker::Model;
 
 /// The deepest level that a place may have.
-pub(crate) const DEEPEST: u8 = 6;
+pub const DEEPEST: u8 = 6;
 
 /// The most trees along an axis.
-pub(crate) const MOST_TREES: u16 = 16;
+pub const MOST_TREES: u16 = 16;
+
+/// How many children a place has.
+pub const CHILDREN: u8 = 8;
 
 /// A cube of an array of octrees: its level (0 is a root, at most 6) and its coordinates, in cubes of that level.
 #[derive(Debug, Clone, Copy, PartialEq, Eq, Hash)]
@@ -100,7 +105,7 @@ impl Place {
     /// Child `k` of the eight one level down. Bit 0 of `k` is its half along x, bit 1 along y, bit 2 along z.
     pub fn child(self, k: u8) -> Place
         requires number { k < 8 }
-        requires room { self.level < 6 }
+        requires room { self.level < deepest }
         ensures value { result ≡ child_of self k }
         ensures limits { IsPlace result }
     {

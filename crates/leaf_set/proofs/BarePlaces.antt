@@ -1,19 +1,19 @@
 -- The walk along the finest places of a domain over places in order: how far it has come, and what it finds.
 use Rattle.std.proofs.Common.{◌≡◌, ℕ, ◌+◌, ◌-◌, ◌*◌, ◌^◌, ◌<◌, ◌≤◌, true, true≢false, List, Option, None, Some, IfSome, IsSome, IsNone, MatchOption, length, slice_get, refl, ap, sym, ◌∙◌, subst, arith, inl, inr, ◌⊎◌, pow_pos}
-use Rattle.std.proofs.lemmas.Bool.{cases_lt, cases_order, cases_eq}
+use Rattle.std.proofs.lemmas.Bool.{cases_lt, cases_order}
 use Rattle.std.proofs.lemmas.Nat.{mul-le}
 use Rattle.std.proofs.lemmas.Option.{slice_get_within, same_Some}
 use Rattle.block_index.specs.Places.{Cube, Grid, IsInside, IsDomain, covers}
-use Rattle.block_index.specs.Order.{rank, IsBefore}
+use Rattle.block_index.specs.Order.{IsBefore}
 use Rattle.block_index.proofs.Ranks.{same_from_rank}
 use Rattle.leaf_set.specs.Meshes.{IsMesh, cover_count}
-use Rattle.leaf_set.specs.LeafFaults.{LiesOutside, Overlaps, IsBare, IsFirstBare, StandInOrder, LieInside, LieApart, CoverAll}
-use Rattle.leaf_set.specs.Stretches.{beginning, ending, IsFirstFrom, AreNoneFrom}
+use Rattle.leaf_set.specs.LeafFaults.{IsBare, IsFirstBare, StandInOrder, LieInside, LieApart, CoverAll}
+use Rattle.leaf_set.specs.Lemmas.Stretches.{beginning, ending, IsFirstFrom, AreNoneFrom}
 use Rattle.leaf_set.proofs.Containment.{Contains, Contains-covers, covers-Contains, Contains-same, Contains-self}
 use Rattle.leaf_set.proofs.Counts.{count-none, count-some, count-found}
 use Rattle.leaf_set.proofs.InOrder.{in_order}
 use Rattle.leaf_set.proofs.MeshFacts.{Spaced, IsMesh-Spaced}
-use Rattle.leaf_set.proofs.Spots.{start, stop, start-stop, rank-start, stop-IsBefore, finest_limit, Contains-stretch, Sides, higher, lower, before, after, sides}
+use Rattle.leaf_set.proofs.Spots.{start, stop, start-stop, rank-start, stop-IsBefore, finest_limit, Contains-stretch, higher, lower, before, after, sides}
 use Rattle.leaf_set.proofs.Stretches.{beginning-start, ending-stop, IsPlace-IsInside, start-origin}
 
 -- ---- places in order, inside and apart are spaced

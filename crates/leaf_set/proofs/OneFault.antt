@@ -1,10 +1,10 @@
 -- The fault of a list of places is one, and a list that has one is no mesh.
-use Rattle.std.proofs.Common.{◌≡◌, ℕ, ◌+◌, ◌-◌, ◌<◌, ◌≤◌, List, Some, slice_get, refl, sym, ap, ◌∙◌, subst, arith, inl, inr}
+use Rattle.std.proofs.Common.{◌≡◌, ℕ, ◌+◌, ◌-◌, List, Some, slice_get, refl, sym, ap, subst, arith, inl, inr}
 use Rattle.std.proofs.lemmas.Bool.{cases_order}
-use Rattle.block_index.specs.Places.{Cube, Grid, IsInside, IsDomain, covers}
+use Rattle.block_index.specs.Places.{Cube, Grid, IsDomain}
 use Rattle.block_index.specs.Order.{rank}
 use Rattle.block_index.proofs.Ranks.{same_from_rank}
-use Rattle.leaf_set.specs.LeafFaults.{BreaksOrder, LiesOutside, Overlaps, IsBare, Jumps, IsFirst, IsFirstPair, IsFirstBare, IsLeafFault, StandInOrder, LieInside, LieApart, CoverAll}
+use Rattle.leaf_set.specs.LeafFaults.{BreaksOrder, LiesOutside, Overlaps, Jumps, IsFirst, IsFirstPair, IsFirstBare, IsLeafFault, StandInOrder, LieInside, LieApart, CoverAll}
 use Rattle.leaf_set.specs.Meshes.{IsMesh, IsBalanced}
 use Rattle.leaf_set.specs.Tiling.{IsTiling}
 use Rattle.leaf_set.specs.declared.leaf_fault.LeafFault.{LeafFault}

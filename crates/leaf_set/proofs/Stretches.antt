@@ -1,12 +1,11 @@
 -- The stretch that a place takes on the line of places of level 6, and what begins first from a spot on.
-use Rattle.std.proofs.Common.{◌≡◌, ℕ, zero, suc, ◌+◌, ◌-◌, ◌*◌, ◌/◌, ◌%◌, ◌^◌, ◌<◌, ◌≤◌, ◌⊎◌, refl, sym, ap, ◌∙◌, subst, arith, pow-suc, inl, inr, le_refl, pow_pos}
+use Rattle.std.proofs.Common.{◌≡◌, ℕ, zero, suc, ◌+◌, ◌-◌, ◌*◌, ◌%◌, ◌^◌, ◌<◌, ◌≤◌, refl, sym, ap, ◌∙◌, subst, arith, pow-suc, le_refl, pow_pos}
 use Rattle.std.proofs.lemmas.Nat.{mul-le}
 use Rattle.std.proofs.Math.Nat.{pow-le-pow_right}
 use Rattle.block_index.specs.Places.{Cube, Grid, IsInside, IsDomain, IsPlace, child_of, parent_of, child_number}
-use Rattle.block_index.specs.Order.{rank}
-use Rattle.leaf_set.specs.Stretches.{beginning, ending, IsFirstFrom, AreNoneFrom}
+use Rattle.leaf_set.specs.Lemmas.Stretches.{beginning, ending, IsFirstFrom, AreNoneFrom}
 use Rattle.leaf_set.proofs.Containment.{Contains, Contains-parent_of, Contains-above, above, child_of-child_number, child_number_below, IsInside-child_of, IsInside-Contains, IsInside-corner, corner, same_cube}
-use Rattle.leaf_set.proofs.Spots.{spot, start, stop, start-spot, stop-start, rank-start, start-child_of, stop-child_of, stop-children, child_width, Contains-stretch, spot-root, start-stop}
+use Rattle.leaf_set.proofs.Spots.{start, stop, start-spot, stop-start, rank-start, start-child_of, stop-child_of, stop-children, Contains-stretch, spot-root, start-stop}
 
 pub beginning-start : (c : Cube) → c.level ≤ 6 → beginning c ≡ start c
 beginning-start c h = let e = rank-start c h in omega arith

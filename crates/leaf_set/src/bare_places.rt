@@ -2,12 +2,9 @@
 ghost use Rattle.std.specs.Prelude.{◌≡◌, ℕ, ◌+◌, ◌≤◌, IfSome, IsNone};
 ghost use Rattle.block_index.specs.Places.{Cube, IsDomain, IsInside};
 ghost use Rattle.leaf_set.specs.LeafFaults.{IsFirstBare, StandInOrder, LieInside, LieApart, CoverAll};
-ghost use Rattle.leaf_set.specs.Stretches.{beginning, ending, IsFirstFrom, AreNoneFrom};
+ghost use Rattle.leaf_set.specs.Lemmas.Stretches.{beginning, ending, IsFirstFrom, AreNoneFrom};
 
-use block_index::{Domain, Place};
-
-/// How many children a place has.
-const CHILDREN: u8 = 8;
+use block_index::{CHILDREN, Domain, Place};
 
 /// The first finest place of the domain, in order, that none of the places covers.
 pub(crate) fn first_bare(domain: &Domain, places: &[Place]) -> Option<Place>

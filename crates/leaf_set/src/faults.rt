@@ -16,7 +16,7 @@ ghost use Rattle.leaf_set.specs.Meshes.{IsMesh};
 
 use crate::bare_places::first_bare;
 use crate::leaf_fault::LeafFault;
-use block_index::{Domain, Place, covers, inside, order};
+use block_index::{DEEPEST, Domain, Place, covers, inside, order};
 use std::cmp::Ordering;
 
 /// The first fault that keeps the places from being a mesh of the domain in order. Where there is none, they are one,
@@ -62,7 +62,7 @@ fn breaks_order(places: &[Place], at: usize) -> bool
 {
     // The limits of every place bound how many can stand in order.
     let level = places[at].level();
-    prove!(level <= 6);
+    prove!(level <= DEEPEST);
     at > 0 && order(places[at - 1], places[at]) != Ordering::Less
 }
 

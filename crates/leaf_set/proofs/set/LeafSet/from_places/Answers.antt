@@ -1,4 +1,4 @@
-use Rattle.std.proofs.Common.{refl, sym, subst, ◌∙◌}
+use Rattle.std.proofs.Common.{refl, subst}
 use Rattle.leaf_set.specs.LeafFaults.{Jumps, IsFirstPair}
 use Rattle.leaf_set.specs.Meshes.{IsMesh}
 use Rattle.leaf_set.proofs.MeshLaws.{IsMesh-HasDistinctLeaves}
