@@ -70,9 +70,9 @@ unfolding mesh_text
 mesh_front-all mesh i end = ap (λ l. count_line (length mesh) ++ flat_map leaf_line l) (take_all i mesh end)
 
 -- the first line
-pub mesh_front-begins : (mesh : List Cube) (n : ℕ) (l0 l1 l2 page : List ℕ) → n ≡ length mesh → l0 ≡ [] → l1 ≡ l0 ++ codes "mesh " → l2 ≡ l1 ++ decimal n → page ≡ l2 ++ codes "\n" → page ≡ mesh_front mesh 0
+pub mesh_front-begins : (mesh : List Cube) (n : ℕ) (l0 l1 page : List ℕ) → n ≡ length mesh → l0 ≡ codes "mesh " → l1 ≡ l0 ++ decimal n → page ≡ l1 ++ codes "\n" → page ≡ mesh_front mesh 0
 unfolding count_line
-mesh_front-begins mesh n l0 l1 l2 page is e0 e1 e2 e = cc (is, e0, e1, e2, e, append-nil (count_line (length mesh)))
+mesh_front-begins mesh n l0 l1 page is e0 e1 e = cc (is, e0, e1, e, append-nil (count_line (length mesh)))
 
 -- one line more
 pub leaf_line-pieces : (c : Cube) (page l0 l1 : List ℕ) → l0 ≡ page ++ shown_place c → l1 ≡ l0 ++ codes "\n" → l1 ≡ page ++ leaf_line c

@@ -15,8 +15,7 @@ pub fn write_mesh<K: Sink>(set: &LeafSet, sink: &mut K) -> Result<(), Failed>
     ensures same_rest { K.rest sink.new ≡ K.rest sink.old }
     ensures cause { HasCause (K.write_faults sink.old) (K.write_faults sink.new) result }
 {
-    let mut page = Page::new();
-    page.push(b"mesh ");
+    let mut page = Page::of(b"mesh ");
     page.push_number(set.len() as u32);
     page.push(b"\n");
     for place in set.places() {

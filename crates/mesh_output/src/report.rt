@@ -22,8 +22,7 @@ fn leaves_after(step: &[u8], number: u32, leaves: u32) -> Line
     requires short { length step.now ≤ 32 }
     ensures line { result ≡ step.now ++ decimal number ++ codes " leaves " ++ decimal leaves ++ codes "\n" }
 {
-    let mut line = Line::new();
-    line.push(step);
+    let mut line = Line::of(step);
     line.push_number(number);
     line.push(b" leaves ");
     line.push_number(leaves);

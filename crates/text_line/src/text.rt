@@ -38,6 +38,16 @@ impl<const ROOM: usize> Text<ROOM> {
         }
     }
 
+    /// These bytes.
+    pub fn of(bytes: &[u8]) -> Self
+        requires room { length bytes.now ≤ ROOM }
+        ensures bytes { result ≡ bytes.now }
+    {
+        let mut text = Text::new();
+        text.push(bytes);
+        text
+    }
+
     /// The bytes so far.
     pub fn bytes(&self) -> &[u8]
         ensures bytes { result.now ≡ self.now }

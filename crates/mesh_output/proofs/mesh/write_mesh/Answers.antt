@@ -5,7 +5,7 @@ use Rattle.mesh_output.proofs.mesh.write_mesh.Goals as goal
 
 pub loop-place-init : goal.loop-place-init
 loop-place-init g c = record {
-  holds = rw (sym (mesh_front-begins c.args.set.now.places c.len.result _ _ _ _ c.len.ensures.len c.new-page.ensures.empty c.push.ensures.bytes c.push_number.ensures.bytes c.push-2.ensures.bytes)) (Holds-all _ _);
+  holds = rw (sym (mesh_front-begins c.args.set.now.places c.len.result _ _ _ c.len.ensures.len c.of-page.ensures.bytes c.push_number.ensures.bytes c.push.ensures.bytes)) (Holds-all _ _);
   same_rest = refl;
   no_fall = omega arith;
 }
