@@ -1,15 +1,17 @@
 -- Each text has a tree or a first fault.
 use Rattle.std.proofs.Common.{◌≡◌, ℕ, zero, suc, ◌<◌, List, [], ◌∷◌, length, Option, Some, None, Ok, Err, Result, refl, inl, inr, arith}
 use Rattle.std.proofs.lemmas.Bool.{cases_lt}
+use Rattle.params_syntax.specs.Limits.{most_elements, longest}
 use Rattle.params_syntax.specs.declared.fault.SyntaxKind.{SyntaxKind}
 use Rattle.params_syntax.specs.declared.fault.SyntaxKind.TheVariants.{Long, Length, Unexpected, End}
 use Rattle.params_syntax.specs.declared.fault.SyntaxFault.{SyntaxFault}
 use Rattle.params_syntax.specs.declared.tree.Group.{Group}
 use Rattle.params_syntax.specs.declared.state.State.{State}
 use Rattle.params_syntax.specs.declared.state.State.TheVariants.{Top, GroupNamed, Inside, Named, Assigned, Listed, Element, Separated, Valued}
-use Rattle.params_syntax.specs.Tokens.{Token, after_gap, token_at, NextToken}
-use Rattle.params_syntax.specs.Reading.{longest, fault_at, HasFault, too_long, ReadsAs}
-use Rattle.params_syntax.specs.States.{step, open_elements}
+use Rattle.params_syntax.specs.declared.token.Token.{Token}
+use Rattle.params_syntax.specs.Tokens.{after_gap, token_at, NextToken}
+use Rattle.params_syntax.specs.Reading.{fault_at, HasFault, too_long, ReadsAs}
+use Rattle.params_syntax.specs.Machine.States.{step, open_elements}
 use Rattle.params_syntax.proofs.Courses.{Course, course_begins, course_goes_on, course_spells, course_unformed, course_unexpected, course_too_many, course_unended}
 use Rattle.params_syntax.proofs.Fronts.{NextToken-shorter}
 
@@ -36,7 +38,7 @@ goes_on : (text : List ℕ) (s : State) (rest : List ℕ) (t : Token) (after : L
     → ((next : State) → Course text next after → Reading text) → (o : Option State) → step s t ≡ o → Reading text
 goes_on text s rest t after c token more None none = (Err (fault_at text (after_gap rest) Unexpected), course_unexpected text s rest t after c token none)
 goes_on text s rest t after c token more (Some next) is =
-    elim (cases_lt 64 (open_elements next)) [
+    elim (cases_lt most_elements (open_elements next)) [
       | inl many ↦ (Err (fault_at text (after_gap rest) Length), course_too_many text s rest t after next c token is many)
       | inr few ↦ more next (course_goes_on text s rest t after next c token is few)
     ]
@@ -66,6 +68,6 @@ reads_from (suc fuel) text s rest h c =
 pub each_reads : (text : List ℕ) → Reading text
 each_reads text =
     elim (cases_lt longest (length text)) [
-      | inl long ↦ (Err (record { offset = 65536; kind = Long }), too_long long refl)
+      | inl long ↦ (Err (record { offset = longest; kind = Long }), too_long long refl)
       | inr short ↦ reads_from (suc (length text)) text (Top []) text (omega arith) (course_begins text short)
     ]

@@ -2,7 +2,8 @@
 use Rattle.std.proofs.Common.{◌≡◌, ℕ, ◌<◌, List, [], ◌∷◌, ◌++◌, length, Ok, Err, Result, refl, sym, ap, ◌∙◌, subst, arith}
 use Rattle.params_syntax.specs.declared.fault.SyntaxKind.{SyntaxKind}
 use Rattle.params_syntax.specs.declared.fault.SyntaxKind.TheVariants.{Byte}
-use Rattle.params_syntax.specs.Tokens.{Token, token_at, NextToken, FrontTokens}
+use Rattle.params_syntax.specs.declared.token.Token.{Token}
+use Rattle.params_syntax.specs.Tokens.{token_at, NextToken, FrontTokens}
 use Rattle.params_syntax.proofs.StepLimits.{IsFormed}
 use Rattle.params_syntax.proofs.Formed.{token_at-good, after_gap-shorter}
 

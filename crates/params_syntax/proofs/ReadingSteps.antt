@@ -1,5 +1,6 @@
 -- One turn of the reader's loop, which stands at the next token: what it finds, and where it goes on.
 use Rattle.std.proofs.Common.{◌≡◌, ℕ, ◌-◌, ◌<◌, ◌≤◌, List, [], ◌∷◌, length, get_or, take, drop, take_all, Option, Some, None, Ok, Err, Result, refl, sym, ap, ◌∙◌, subst, arith}
+use Rattle.params_syntax.specs.Limits.{most_elements, longest}
 use Rattle.params_syntax.specs.declared.fault.SyntaxKind.{SyntaxKind}
 use Rattle.params_syntax.specs.declared.fault.SyntaxKind.TheVariants as kinds
 use Rattle.params_syntax.specs.declared.fault.ReadError.{ReadError}
@@ -8,11 +9,12 @@ use Rattle.params_syntax.specs.declared.refusal.Refusal.TheVariants.{Unexpected,
 use Rattle.params_syntax.specs.declared.tree.Group.{Group}
 use Rattle.params_syntax.specs.declared.state.State.{State}
 use Rattle.params_syntax.specs.declared.state.State.TheVariants.{Top, GroupNamed, Inside, Named, Assigned, Listed, Element, Separated, Valued}
-use Rattle.params_syntax.specs.Tokens.{Token, after_gap, token_at, NextToken, FrontTokens}
-use Rattle.params_syntax.specs.Reading.{longest, Spells, fault_at, HasFault, IsUnread}
+use Rattle.params_syntax.specs.declared.token.Token.{Token}
+use Rattle.params_syntax.specs.Tokens.{after_gap, token_at, NextToken, FrontTokens}
+use Rattle.params_syntax.specs.Reading.{Spells, fault_at, HasFault, IsUnread}
 use Rattle.std.specs.Prelude.{IfOk, IfErr}
-use Rattle.params_syntax.specs.States.{step, open_elements}
-use Rattle.params_syntax.specs.Steps.{IsFull, Steps, fault_of, refusal_of, end_of}
+use Rattle.params_syntax.specs.Machine.States.{step, open_elements}
+use Rattle.params_syntax.specs.Machine.Steps.{IsFull, StepsTo, fault_of, refusal_of, end_of}
 use Rattle.params_syntax.proofs.Formed.{token_at-good, after_gap-shorter}
 use Rattle.params_syntax.proofs.Fronts.{NextToken-shorter}
 use Rattle.params_syntax.proofs.Courses.{Course, course_begins, course_goes_on, course_spells, course_unformed, course_unexpected, course_too_many, course_unended}
@@ -40,7 +42,7 @@ at_unformed text s here b bs kind a front read =
     subst P (sym front) (course_unformed text s a.0 b bs kind a.2 (a.1 ∙ front) read)
 
 pub at_refused : (text : List ℕ) (s : State) (here : List ℕ) (b : ℕ) (bs : List ℕ) (t : Token) (after : List ℕ) (refusal : Refusal) → At text s here → here ≡ b ∷ bs
-    → token_at b bs ≡ Ok (t, after) → Steps (Err refusal) (step s t) → IsUnread text (refusal_of (length text - length here) refusal)
+    → token_at b bs ≡ Ok (t, after) → StepsTo (Err refusal) (step s t) → IsUnread text (refusal_of (length text - length here) refusal)
 at_refused text s here b bs t after Memory a front read refused = tt
 at_refused text s here b bs t after Unexpected a front read refused =
     let P : List ℕ → Type 0 = λ l. HasFault text (fault_at text l kinds.Unexpected) in
@@ -49,12 +51,12 @@ at_refused text s here b bs t after Length a front read full =
     let P : List ℕ → Type 0 = λ l. HasFault text (fault_at text l kinds.Length) in
     by (step s t) refl full (λ next is many. subst P a.1 (course_too_many text s a.0 t after next a.2 (token_there a.0 b bs here t after a.1 front read) is many))
   where
-    by : {Q : Type 0} (o : Option State) → step s t ≡ o → IsFull o → ((next : State) → step s t ≡ Some next → 64 < open_elements next → Q) → Q
+    by : {Q : Type 0} (o : Option State) → step s t ≡ o → IsFull o → ((next : State) → step s t ≡ Some next → most_elements < open_elements next → Q) → Q
     by None e full go = absurd full
     by (Some next) e full go = go next e full
 
 pub at_more : (text : List ℕ) (s : State) (here : List ℕ) (b : ℕ) (bs : List ℕ) (t : Token) (after : List ℕ) (next : State) → At text s here → here ≡ b ∷ bs
-    → token_at b bs ≡ Ok (t, after) → Steps (Ok next) (step s t) → (left : List ℕ) → left ≡ after_gap after → At text next left
+    → token_at b bs ≡ Ok (t, after) → StepsTo (Ok next) (step s t) → (left : List ℕ) → left ≡ after_gap after → At text next left
 at_more text s here b bs t after next a front read stepped left is =
     (after, sym is, course_goes_on text s a.0 t after next a.2 (token_there a.0 b bs here t after a.1 front read) stepped.0 stepped.1)
 

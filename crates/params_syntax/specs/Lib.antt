@@ -1,8 +1,7 @@
+pub mod Limits
 pub mod Tokens
 pub mod Trees
 pub mod Grammar
 pub mod Reading
 pub mod Canonical
-pub mod Lexemes
-pub mod States
-pub mod Steps
+pub mod Machine

@@ -11,20 +11,21 @@ use Rattle.params_syntax.specs.declared.state.State.{State}
 use Rattle.params_syntax.specs.declared.state.State.TheVariants.{Top}
 use Rattle.params_syntax.specs.declared.refusal.Refusal.{Refusal}
 use Rattle.params_syntax.specs.declared.refusal.Refusal.TheVariants.{Unexpected, Length, Memory}
+use Rattle.params_syntax.specs.Limits.{most_elements}
 use Rattle.params_syntax.specs.Trees.{IsTree}
-use Rattle.params_syntax.specs.States.{open_elements}
+use Rattle.params_syntax.specs.Machine.States.{open_elements}
 
--- a list of more than 64 elements would be open
+-- a list of too many elements would be open
 abbrev pub IsFull : Option State → Type 0
 IsFull None = ⊥
-IsFull (Some next) = 64 < open_elements next
+IsFull (Some next) = most_elements < open_elements next
 
 -- A step gives this state, or refuses the token where there is none, or where a list would be too long.
-abbrev pub Steps : Result State Refusal → Option State → Type 0
-Steps (Ok next) o = (o ≡ Some next) × (open_elements next ≤ 64)
-Steps (Err Unexpected) o = o ≡ None
-Steps (Err Length) o = IsFull o
-Steps (Err Memory) o = Unit {0}
+abbrev pub StepsTo : Result State Refusal → Option State → Type 0
+StepsTo (Ok next) o = (o ≡ Some next) × (open_elements next ≤ most_elements)
+StepsTo (Err Unexpected) o = o ≡ None
+StepsTo (Err Length) o = IsFull o
+StepsTo (Err Memory) o = Unit {0}
 
 -- a fault at an offset
 abbrev pub fault_of : ℕ → SyntaxKind → ReadError
