@@ -1,16 +1,17 @@
 -- How far a text was read: the tokens at its front, and the state that they lead to. What ends there is the tree or the
 -- first fault.
-use Rattle.std.proofs.Common.{◌≡◌, ℕ, ◌<◌, ◌≤◌, List, [], ◌∷◌, ◌++◌, length, Some, None, Err, refl, sym, ap, ◌∙◌, subst}
+use Rattle.std.proofs.Common.{◌≡◌, ℕ, ◌<◌, ◌≤◌, List, [], ◌∷◌, ◌++◌, length, Some, None, Ok, Err, Result, refl, sym, ap, ◌∙◌, subst}
 use Rattle.params_syntax.specs.Limits.{most_elements, longest}
 use Rattle.params_syntax.specs.declared.fault.SyntaxKind.{SyntaxKind}
+use Rattle.params_syntax.specs.declared.fault.SyntaxFault.{SyntaxFault}
 use Rattle.params_syntax.specs.declared.fault.SyntaxKind.TheVariants.{Length, Unexpected, End}
 use Rattle.params_syntax.specs.declared.tree.Group.{Group}
 use Rattle.params_syntax.specs.declared.state.State.{State}
-use Rattle.params_syntax.specs.declared.state.State.TheVariants.{Top}
+use Rattle.params_syntax.specs.declared.state.State.TheVariants.{Top, GroupNamed, Inside, Named, Assigned, Listed, Element, Separated, Valued}
 use Rattle.params_syntax.specs.declared.token.Token.{Token}
 use Rattle.params_syntax.specs.Tokens.{after_gap, token_at, NextToken, FrontTokens}
-use Rattle.params_syntax.specs.Reading.{Spells, FrontAllowed, fault_at, HasFault, unformed, unexpected, too_many, unended}
-use Rattle.params_syntax.specs.Machine.States.{step, open_elements}
+use Rattle.params_syntax.specs.Reading.{Spells, FrontAllowed, fault_at, HasFault, unformed, unexpected, too_many, unended, ReadsAs}
+use Rattle.params_syntax.specs.Machine.States.{step, open_elements, at_top}
 use Rattle.params_syntax.proofs.Runs.{run, start, run-tree_tokens}
 use Rattle.params_syntax.proofs.StepLimits.{KeepsLimits, step-keeps}
 use Rattle.params_syntax.proofs.Reached.{run-few, run-begin, begin-run, run-tree, run-push, run-counts}
@@ -92,3 +93,27 @@ course_unended text s rest c open_ ended =
     let same : s ≡ Top groups = cc in
     subst IsOpen same open_)
     refl
+
+-- ---- the end of a text
+
+-- what holds between groups, and inside of one
+pub by_end : {X : Type 0} (top : List Group → X) (inside : X) (P : State → X → Type 0) → ((gs : List Group) → P (Top gs) (top gs))
+    → ((s : State) → IsOpen s → P s inside) → (s : State) → P s (at_top top inside s)
+by_end top inside P t o (Top gs) = t gs
+by_end top inside P t o (GroupNamed gs g) = o (GroupNamed gs g) tt
+by_end top inside P t o (Inside f) = o (Inside f) tt
+by_end top inside P t o (Named f n) = o (Named f n) tt
+by_end top inside P t o (Assigned f n) = o (Assigned f n) tt
+by_end top inside P t o (Listed f n) = o (Listed f n) tt
+by_end top inside P t o (Element f n atoms) = o (Element f n atoms) tt
+by_end top inside P t o (Separated f n atoms) = o (Separated f n atoms) tt
+by_end top inside P t o (Valued f n v) = o (Valued f n v) tt
+
+-- the tree, or the fault at the end
+abbrev pub end_reading : List ℕ → State → Result (List Group) SyntaxFault
+end_reading text s = at_top Ok (Err (record { offset = length text; kind = End })) s
+
+pub course_ends : (text : List ℕ) (s : State) (rest : List ℕ) → Course text s rest → after_gap rest ≡ [] → ReadsAs text (end_reading text s)
+course_ends text s rest c ended =
+    by_end Ok _ (λ r reading. Course text r rest → ReadsAs text reading)
+    (λ gs c. course_spells text gs rest c ended) (λ r open_ c. course_unended text r rest c open_ ended) s c

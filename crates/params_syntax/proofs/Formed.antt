@@ -8,13 +8,9 @@ use Rattle.params_syntax.specs.declared.fault.SyntaxKind.{SyntaxKind}
 use Rattle.params_syntax.specs.declared.token.Sign.{Sign}
 use Rattle.params_syntax.specs.declared.token.Token.{Token}
 use Rattle.params_syntax.specs.Limits.{longest_name, greatest}
-use Rattle.params_syntax.specs.Tokens.{is_digit, begins_name, is_name_byte, is_word_byte, is_blank, sign_of, begun_at, skipped, after_gap, negative, name_at, digits_at, closed_at, word_at, token_at}
+use Rattle.params_syntax.specs.Tokens.{Found, is_digit, begins_name, is_name_byte, is_word_byte, is_blank, sign_of, begun_at, skipped, after_gap, negative, name_at, digits_at, closed_at, word_at, token_at}
 use Rattle.params_syntax.specs.Trees.{Each, IsNumber}
 use Rattle.params_syntax.proofs.StepLimits.{IsFormed}
-
--- a token, and what stands after it
-abbrev Found : Type 0
-Found = Token × List ℕ
 
 -- what a reading of a token answers
 pub record IsGood (most : ℕ) (t : Token) (after : List ℕ) : Type 0 where

@@ -8,27 +8,21 @@ use Rattle.params_syntax.specs.declared.fault.SyntaxKind.TheVariants.{Long, Leng
 use Rattle.params_syntax.specs.declared.fault.SyntaxFault.{SyntaxFault}
 use Rattle.params_syntax.specs.declared.tree.Group.{Group}
 use Rattle.params_syntax.specs.declared.state.State.{State}
-use Rattle.params_syntax.specs.declared.state.State.TheVariants.{Top, GroupNamed, Inside, Named, Assigned, Listed, Element, Separated, Valued}
+use Rattle.params_syntax.specs.declared.state.State.TheVariants.{Top}
 use Rattle.params_syntax.specs.declared.token.Token.{Token}
-use Rattle.params_syntax.specs.Tokens.{after_gap, token_at, NextToken, FrontTokens}
+use Rattle.params_syntax.specs.Tokens.{Found, after_gap, token_at, NextToken, FrontTokens}
 use Rattle.params_syntax.specs.Grammar.{tree_tokens, last_elements}
 use Rattle.params_syntax.specs.Reading.{Spells, FrontAllowed, fault_at, HasFault, too_long, unformed, unexpected, too_many, unended, ReadsAs}
 use Rattle.params_syntax.specs.Machine.States.{step, open_elements}
 use Rattle.params_syntax.proofs.Runs.{run, start, run-tree_tokens}
 use Rattle.params_syntax.proofs.Reached.{splits, run-few, run-begin, begin-run, run-tree, run-push, run-counts}
+use Rattle.params_syntax.proofs.Courses.{by_end, end_reading}
 use Rattle.params_syntax.proofs.Fronts.{same, first_further, second_further, compare_fronts}
 
 -- what one more turn of reading does: it ends, or goes on
 data Turn : Type 0 where
   Done : Result (List Group) SyntaxFault → Turn
   More : State → List ℕ → Turn
-
-abbrev Found : Type 0
-Found = Token × List ℕ
-
-abbrev end_of : List ℕ → State → Result (List Group) SyntaxFault
-end_of text (Top gs) = Ok gs
-end_of text _ = Err (record { offset = length text; kind = End })
 
 abbrev taken : List ℕ → List ℕ → List ℕ → Option State → Turn
 taken text here after None = Done (Err (fault_at text here Unexpected))
@@ -39,7 +33,7 @@ token_turn text here s (Err kind) = Done (Err (fault_at text here kind))
 token_turn text here s (Ok x) = taken text here x.1 (step s x.0)
 
 abbrev turn_at : List ℕ → State → List ℕ → Turn
-turn_at text s [] = Done (end_of text s)
+turn_at text s [] = Done (end_reading text s)
 turn_at text s (b ∷ bs) = token_turn text (b ∷ bs) s (token_at b bs)
 
 abbrev turn : List ℕ → State → List ℕ → Turn
@@ -90,16 +84,10 @@ one_answer text a b e f =
 
 -- ---- each reading ends
 
-ended_end : (text : List ℕ) (s : State) → ((gs : List Group) → s ≡ Top gs → ⊥) → end_of text s ≡ Err (record { offset = length text; kind = End })
-ended_end text (Top gs) h = absurd (h gs refl)
-ended_end text (GroupNamed gs g) h = refl
-ended_end text (Inside f) h = refl
-ended_end text (Named f n) h = refl
-ended_end text (Assigned f n) h = refl
-ended_end text (Listed f n) h = refl
-ended_end text (Element f n atoms) h = refl
-ended_end text (Separated f n atoms) h = refl
-ended_end text (Valued f n v) h = refl
+ended_end : (text : List ℕ) (s : State) → ((gs : List Group) → s ≡ Top gs → ⊥) → end_reading text s ≡ Err (record { offset = length text; kind = End })
+ended_end text s none =
+    by_end Ok _ (λ r reading. ((gs : List Group) → r ≡ Top gs → ⊥) → reading ≡ Err (record { offset = length text; kind = End }))
+    (λ gs h. absurd (h gs refl)) (λ r open_ h. refl) s none
 
 spelled_ends : (text : List ℕ) (gs : List Group) → Spells text gs → Ended text (Ok gs)
 spelled_ends text gs h = record {

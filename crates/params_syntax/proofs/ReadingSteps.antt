@@ -8,7 +8,7 @@ use Rattle.params_syntax.specs.declared.refusal.Refusal.{Refusal}
 use Rattle.params_syntax.specs.declared.refusal.Refusal.TheVariants.{Unexpected, Length, Memory}
 use Rattle.params_syntax.specs.declared.tree.Group.{Group}
 use Rattle.params_syntax.specs.declared.state.State.{State}
-use Rattle.params_syntax.specs.declared.state.State.TheVariants.{Top, GroupNamed, Inside, Named, Assigned, Listed, Element, Separated, Valued}
+use Rattle.params_syntax.specs.declared.state.State.TheVariants.{Top}
 use Rattle.params_syntax.specs.declared.token.Token.{Token}
 use Rattle.params_syntax.specs.Tokens.{after_gap, token_at, NextToken, FrontTokens}
 use Rattle.params_syntax.specs.Reading.{Spells, fault_at, HasFault, IsUnread}
@@ -17,7 +17,7 @@ use Rattle.params_syntax.specs.Machine.States.{step, open_elements}
 use Rattle.params_syntax.specs.Machine.Steps.{IsFull, StepsTo, fault_of, refusal_of, end_of}
 use Rattle.params_syntax.proofs.Formed.{token_at-good, after_gap-shorter}
 use Rattle.params_syntax.proofs.Fronts.{NextToken-shorter}
-use Rattle.params_syntax.proofs.Courses.{Course, course_begins, course_goes_on, course_spells, course_unformed, course_unexpected, course_too_many, course_unended}
+use Rattle.params_syntax.proofs.Courses.{Course, course_begins, course_goes_on, course_spells, course_unformed, course_unexpected, course_too_many, course_unended, by_end}
 
 -- The text was read up to the next token, or to the end.
 abbrev pub At : List ℕ → State → List ℕ → Type 0
@@ -77,19 +77,11 @@ pub record EndsWell (text : List ℕ) (answer : Answer) : Type 0 where
   pub tree : IfOk answer (λ gs. Spells text gs)
   pub fault : IfErr answer (λ e. IsUnread text e)
 
-ends_open : (text : List ℕ) → HasFault text (record { offset = length text; kind = kinds.End }) → EndsWell text (Err (fault_of (length text) kinds.End))
-ends_open text h = record { tree = tt; fault = h }
-
 ends_in : (text : List ℕ) (s : State) (rest : List ℕ) → Course text s rest → after_gap rest ≡ [] → EndsWell text (end_of (length text) s)
-ends_in text (Top gs) rest c e = record { tree = course_spells text gs rest c e; fault = tt }
-ends_in text (GroupNamed gs g) rest c e = ends_open text (course_unended text (GroupNamed gs g) rest c tt e)
-ends_in text (Inside f) rest c e = ends_open text (course_unended text (Inside f) rest c tt e)
-ends_in text (Named f n) rest c e = ends_open text (course_unended text (Named f n) rest c tt e)
-ends_in text (Assigned f n) rest c e = ends_open text (course_unended text (Assigned f n) rest c tt e)
-ends_in text (Listed f n) rest c e = ends_open text (course_unended text (Listed f n) rest c tt e)
-ends_in text (Element f n atoms) rest c e = ends_open text (course_unended text (Element f n atoms) rest c tt e)
-ends_in text (Separated f n atoms) rest c e = ends_open text (course_unended text (Separated f n atoms) rest c tt e)
-ends_in text (Valued f n v) rest c e = ends_open text (course_unended text (Valued f n v) rest c tt e)
+ends_in text s rest c e =
+    by_end Ok _ (λ r answer. Course text r rest → EndsWell text answer)
+    (λ gs c. record { tree = course_spells text gs rest c e; fault = tt })
+    (λ r open_ c. record { tree = tt; fault = course_unended text r rest c open_ e }) s c
 
 is_empty : (l : List ℕ) → length l < 1 → l ≡ []
 is_empty [] h = refl

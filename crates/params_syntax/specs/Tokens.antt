@@ -56,14 +56,18 @@ abbrev pub negative : ℕ → ℤ
 negative zero = pos 0
 negative (suc n) = negsuc n
 
+-- a token, and what stands after it
+abbrev pub Found : Type 0
+Found = Token × List ℕ
+
 -- a name, as long as it can be
-abbrev pub name_at : List ℕ → Result (Token × List ℕ) SyntaxKind
+abbrev pub name_at : List ℕ → Result Found SyntaxKind
 name_at bytes =
     let name = take_while is_name_byte bytes in
     if nat_le (length name) longest_name then Ok (tokens.Name name, drop (length name) bytes) else Err Name
 
 -- a number's digits, as many as there are, and what the value makes of them
-abbrev pub digits_at : (ℕ → ℤ) → List ℕ → Result (Token × List ℕ) SyntaxKind
+abbrev pub digits_at : (ℕ → ℤ) → List ℕ → Result Found SyntaxKind
 digits_at signed bytes =
     let digits = take_while is_digit bytes in
     if nat_le 1 (length digits) && nat_le (digits_value 10 digits) greatest
@@ -71,17 +75,17 @@ digits_at signed bytes =
     else Err Number
 
 -- a word after its opening `"`
-abbrev pub closed_at : List ℕ → List ℕ → Result (Token × List ℕ) SyntaxKind
+abbrev pub closed_at : List ℕ → List ℕ → Result Found SyntaxKind
 closed_at word [] = Err Word
 closed_at word (b ∷ rest) = if (b == 34) && nat_le (length word) longest_name then Ok (tokens.Atom (atoms.Word word), rest) else Err Word
 
-abbrev pub word_at : List ℕ → Result (Token × List ℕ) SyntaxKind
+abbrev pub word_at : List ℕ → Result Found SyntaxKind
 word_at bytes =
     let word = take_while is_word_byte bytes in
     closed_at word (drop (length word) bytes)
 
 -- a token that begins with a sign, or with another byte
-abbrev pub begun_at : Option Sign → ℕ → List ℕ → Result (Token × List ℕ) SyntaxKind
+abbrev pub begun_at : Option Sign → ℕ → List ℕ → Result Found SyntaxKind
 begun_at (Some sign) b bs = Ok (tokens.Sign sign, bs)
 begun_at None b bs =
     if begins_name b then name_at (b ∷ bs)
@@ -92,7 +96,7 @@ begun_at None b bs =
 
 -- The token that these bytes begin with, where neither a blank nor a comment stands before it, and what stands
 -- after it. Each token is as long as it can be. Or why it can't be formed.
-abbrev pub token_at : ℕ → List ℕ → Result (Token × List ℕ) SyntaxKind
+abbrev pub token_at : ℕ → List ℕ → Result Found SyntaxKind
 token_at b bs = begun_at (sign_of b) b bs
 
 -- the next token after blanks and comments, and what stands after it

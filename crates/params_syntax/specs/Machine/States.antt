@@ -5,6 +5,7 @@ use Rattle.params_syntax.specs.declared.tree.Atom.{Atom}
 use Rattle.params_syntax.specs.declared.tree.Value.TheVariants as values
 use Rattle.params_syntax.specs.declared.tree.Setting.{Setting}
 use Rattle.params_syntax.specs.declared.tree.Item.TheVariants.{Set, Sub}
+use Rattle.params_syntax.specs.declared.tree.Group.{Group}
 use Rattle.params_syntax.specs.declared.state.Frame.{Frame}
 use Rattle.params_syntax.specs.declared.state.Frame.TheVariants.{InGroup, InSub}
 use Rattle.params_syntax.specs.declared.state.State.{State}
@@ -101,3 +102,8 @@ open_elements (Element frame name atoms) = length atoms
 open_elements (Separated frame name atoms) = length atoms
 open_elements (Valued frame name (values.Atom atom)) = 1
 open_elements _ = 0
+
+-- one value between groups, and another inside of one
+abbrev pub at_top : {X : Type 0} → (List Group → X) → X → State → X
+at_top top inside (Top groups) = top groups
+at_top top inside _ = inside

@@ -13,7 +13,7 @@ use Rattle.params_syntax.specs.declared.refusal.Refusal.{Refusal}
 use Rattle.params_syntax.specs.declared.refusal.Refusal.TheVariants.{Unexpected, Length, Memory}
 use Rattle.params_syntax.specs.Limits.{most_elements}
 use Rattle.params_syntax.specs.Trees.{IsTree}
-use Rattle.params_syntax.specs.Machine.States.{open_elements}
+use Rattle.params_syntax.specs.Machine.States.{open_elements, at_top}
 
 -- a list of too many elements would be open
 abbrev pub IsFull : Option State → Type 0
@@ -44,5 +44,4 @@ KeepsTop _ = Unit {0}
 
 -- what reading gives at the end of a text of this length
 abbrev pub end_of : ℕ → State → Result (List Group) ReadError
-end_of long (Top groups) = Ok groups
-end_of long _ = Err (fault_of long kinds.End)
+end_of long s = at_top Ok (Err (fault_of long kinds.End)) s

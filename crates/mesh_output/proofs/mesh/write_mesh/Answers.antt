@@ -1,3 +1,4 @@
+-- The first line, each leaf, a page that fails, and the last page.
 use Rattle.std.proofs.Common.{length, refl, sym, ap, ◌∙◌, arith}
 use Rattle.mesh_output.specs.Lines.{leaf_line}
 use Rattle.mesh_output.proofs.Pages.{Wrote-from_err, Holds-all, Holds-more, Holds-on, Holds-grew, Holds-wrote, mesh_front-begins, leaf_line-pieces, mesh_front-next, mesh_front-all, mesh_front-grew}

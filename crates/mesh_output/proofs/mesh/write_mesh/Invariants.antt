@@ -1,3 +1,4 @@
+-- The loop over the leaves of a mesh.
 use Rattle.std.proofs.Common.{◌≡◌, ◌≤◌}
 use Rattle.mesh_output.specs.Lemmas.Pages.{Holds}
 use Rattle.mesh_output.proofs.Pages.{mesh_front}

@@ -1,3 +1,4 @@
+-- A page that was written, and one that wasn't.
 use Rattle.mesh_output.proofs.Pages.{Holds-all, Holds-none}
 use Rattle.mesh_output.proofs.page.make_room.Goals as goal
 

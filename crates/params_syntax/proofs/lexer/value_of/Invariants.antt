@@ -1,3 +1,4 @@
+-- The loop over the digits of a number.
 use Rattle.std.proofs.Common.{◌≡◌, ◌≤◌, take}
 use Rattle.std.specs.Str.Parse.{digits_value}
 use Rattle.params_syntax.specs.Limits.{greatest}

@@ -1,3 +1,4 @@
+-- Each turn at a token, and the end.
 use Rattle.std.proofs.Common.{arith}
 use Rattle.params_syntax.proofs.ReadingSteps.{at_shorter, at_unformed, at_refused, at_more, token_at-shorter, at_end, first_of, tail_of, parts_of}
 use Rattle.params_syntax.proofs.reading.read_short.Goals as goal

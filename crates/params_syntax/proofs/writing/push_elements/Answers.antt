@@ -1,3 +1,4 @@
+-- One element more, after a comma or first.
 use Rattle.std.proofs.Common.{◌++◌, append_assoc, arith, take}
 use Rattle.std.specs.Prelude.{codes}
 use Rattle.params_syntax.specs.Canonical.{atom_text, elements_text}
