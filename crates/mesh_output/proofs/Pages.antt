@@ -25,20 +25,13 @@ Holds-all known bytes = record { part = []; full = refl; grew = sym (append_know
 pub Holds-none : (old new : Option (List ℕ)) (bytes page : List ℕ) → new ≡ append_known old bytes → page ≡ [] → Holds old new bytes page
 Holds-none old new bytes page grew none = record { part = bytes; full = ap (λ l. bytes ++ l) none ∙ append-nil bytes; grew = grew }
 
--- more bytes in the page
-pub Holds-more : (old new : Option (List ℕ)) (bytes page more : List ℕ) → Holds old new bytes page → Holds old new (bytes ++ more) (page ++ more)
-Holds-more old new bytes page more h = record {
-  part = h.part;
-  full = sym (append_assoc h.part page more) ∙ ap (λ (l : List ℕ). l ++ more) h.full;
-  grew = h.grew;
-}
-
--- a part of the page was written too
-pub Holds-on : (old mid new : Option (List ℕ)) (bytes page left : List ℕ) → Holds old mid bytes page → Holds mid new page left → Holds old new bytes left
-Holds-on old mid new bytes page left h more = record {
-  part = h.part ++ more.part;
-  full = append_assoc h.part more.part left ∙ ap (λ (l : List ℕ). h.part ++ l) more.full ∙ h.full;
-  grew = written_then old mid new h.part more.part h.grew more.grew;
+-- a part of the page was written too, and then the page got more bytes
+pub Holds-next : (old mid new : Option (List ℕ)) (bytes page left more : List ℕ) → Holds old mid bytes page → Holds mid new page left
+    → Holds old new (bytes ++ more) (left ++ more)
+Holds-next old mid new bytes page left more h k = record {
+  part = h.part ++ k.part;
+  full = sym (append_assoc (h.part ++ k.part) left more) ∙ ap (λ (l : List ℕ). l ++ more) (append_assoc h.part k.part left ∙ ap (λ (l : List ℕ). h.part ++ l) k.full ∙ h.full);
+  grew = written_then old mid new h.part k.part h.grew k.grew;
 }
 
 pub Holds-grew : (old mid new : Option (List ℕ)) (bytes page : List ℕ) → Holds old mid bytes page → GrewByPart mid new page → GrewByPart old new bytes
@@ -52,34 +45,33 @@ Holds-wrote old mid new bytes page r h wrote = subst (Wrote old new r) h.full (w
 abbrev pub mesh_front : List Cube → ℕ → List ℕ
 mesh_front mesh i = count_line (length mesh) ++ flat_map leaf_line (take i mesh)
 
+-- the line of the count
+pub mesh_front-begins : (mesh : List Cube) (n : ℕ) (l0 l1 page : List ℕ) → n ≡ length mesh → l0 ≡ codes "mesh " → l1 ≡ l0 ++ decimal n → page ≡ l1 ++ codes "\n" → page ≡ mesh_front mesh 0
+unfolding count_line
+mesh_front-begins mesh n l0 l1 page is e0 e1 e = cc (is, e0, e1, e, append-nil (count_line (length mesh)))
+
+-- a leaf's line
+pub leaf_line-pieces : (c : Cube) (page l0 l1 : List ℕ) → l0 ≡ page ++ shown_place c → l1 ≡ l0 ++ codes "\n" → l1 ≡ page ++ leaf_line c
+unfolding leaf_line
+leaf_line-pieces c page l0 l1 e0 e1 = e1 ∙ ap (λ l. l ++ codes "\n") e0 ∙ append_assoc page (shown_place c) (codes "\n")
+
+-- one leaf more
 pub mesh_front-next : (mesh : List Cube) (i : ℕ) (c : Cube) → i < length mesh → c ≡ get_or mesh i c → mesh_front mesh (i + 1) ≡ mesh_front mesh i ++ leaf_line c
 mesh_front-next mesh i c below is =
-    let more : take (i + 1) mesh ≡ take i mesh ++ c ∷ [] = take_more mesh i c below ∙ ap (λ d. take i mesh ++ d ∷ []) (sym is) in
-    let leaves : flat_map leaf_line (take (i + 1) mesh) ≡ flat_map leaf_line (take i mesh) ++ leaf_line c =
-    ap (flat_map leaf_line) more ∙ flat_map-append leaf_line (take i mesh) (c ∷ []) ∙ ap (λ l. flat_map leaf_line (take i mesh) ++ l) (append-nil (leaf_line c)) in
-    ap (λ l. count_line (length mesh) ++ l) leaves ∙ sym (append_assoc (count_line (length mesh)) (flat_map leaf_line (take i mesh)) (leaf_line c))
-
-mesh_front-rest : (mesh : List Cube) (i : ℕ) → mesh_front mesh i ++ flat_map leaf_line (drop i mesh) ≡ mesh_text mesh
-unfolding mesh_text
-mesh_front-rest mesh i =
-    append_assoc (count_line (length mesh)) (flat_map leaf_line (take i mesh)) (flat_map leaf_line (drop i mesh))
-    ∙ ap (λ l. count_line (length mesh) ++ l) (sym (flat_map-append leaf_line (take i mesh) (drop i mesh)) ∙ ap (flat_map leaf_line) (take-append-drop i mesh))
+    let more = take_more mesh i c below in
+    let leaves = flat_map-append leaf_line (take i mesh) (c ∷ []) in
+    cc (is, more, leaves, append-nil (leaf_line c), append_assoc (count_line (length mesh)) (flat_map leaf_line (take i mesh)) (leaf_line c))
 
 pub mesh_front-all : (mesh : List Cube) (i : ℕ) → length mesh ≤ i → mesh_front mesh i ≡ mesh_text mesh
 unfolding mesh_text
 mesh_front-all mesh i end = ap (λ l. count_line (length mesh) ++ flat_map leaf_line l) (take_all i mesh end)
 
--- the first line
-pub mesh_front-begins : (mesh : List Cube) (n : ℕ) (l0 l1 page : List ℕ) → n ≡ length mesh → l0 ≡ codes "mesh " → l1 ≡ l0 ++ decimal n → page ≡ l1 ++ codes "\n" → page ≡ mesh_front mesh 0
-unfolding count_line
-mesh_front-begins mesh n l0 l1 page is e0 e1 e = cc (is, e0, e1, e, append-nil (count_line (length mesh)))
-
--- one line more
-pub leaf_line-pieces : (c : Cube) (page l0 l1 : List ℕ) → l0 ≡ page ++ shown_place c → l1 ≡ l0 ++ codes "\n" → l1 ≡ page ++ leaf_line c
-unfolding leaf_line
-leaf_line-pieces c page l0 l1 e0 e1 = e1 ∙ ap (λ l. l ++ codes "\n") e0 ∙ append_assoc page (shown_place c) (codes "\n")
-
 -- a part of the front is a part of the whole
 pub mesh_front-grew : (old new : Option (List ℕ)) (mesh : List Cube) (i : ℕ) → GrewByPart old new (mesh_front mesh i) → GrewByPart old new (mesh_text mesh)
+unfolding mesh_text
 mesh_front-grew old new mesh i some =
-    subst (GrewByPart old new) (mesh_front-rest mesh i) (grew_less old new (mesh_front mesh i) (flat_map leaf_line (drop i mesh)) some)
+    let count = count_line (length mesh) in
+    let leaves = flat_map-append leaf_line (take i mesh) (drop i mesh) in
+    subst (GrewByPart old new)
+    (append_assoc count _ _ ∙ ap (λ l. count ++ l) (sym leaves ∙ ap (flat_map leaf_line) (take-append-drop i mesh)))
+    (grew_less old new (mesh_front mesh i) (flat_map leaf_line (drop i mesh)) some)

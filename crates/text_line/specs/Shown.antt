@@ -11,6 +11,7 @@ abbrev pub shown_name : List ℕ → List ℕ
 shown_name [] = codes "-"
 shown_name (b ∷ bs) = b ∷ bs
 
+-- the most bytes of a shown name
 abbrev pub name_room : ℕ
 name_room = 32
 
@@ -18,5 +19,6 @@ name_room = 32
 abbrev pub shown_place : Cube → List ℕ
 shown_place c = decimal c.level ++ codes " " ++ decimal c.x ++ codes " " ++ decimal c.y ++ codes " " ++ decimal c.z
 
+-- the most bytes of a shown place
 abbrev pub place_room : ℕ
 place_room = 21

@@ -1,7 +1,6 @@
 -- The first line, each leaf, a page that fails, and the last page.
 use Rattle.std.proofs.Common.{length, refl, sym, ap, ◌∙◌, arith}
-use Rattle.mesh_output.specs.Lines.{leaf_line}
-use Rattle.mesh_output.proofs.Pages.{Wrote-from_err, Holds-all, Holds-more, Holds-on, Holds-grew, Holds-wrote, mesh_front-begins, leaf_line-pieces, mesh_front-next, mesh_front-all, mesh_front-grew}
+use Rattle.mesh_output.proofs.Pages.{Wrote-from_err, Holds-all, Holds-next, Holds-grew, Holds-wrote, mesh_front-begins, leaf_line-pieces, mesh_front-next, mesh_front-all, mesh_front-grew}
 use Rattle.mesh_output.proofs.mesh.write_mesh.Goals as goal
 
 pub loop-place-init : goal.loop-place-init
@@ -21,11 +20,10 @@ pub loop-place-preserved : goal.loop-place-preserved
 loop-place-preserved g c =
     let mesh = c.args.set.now.places in
     let i = c.loop-place.place-index in
-    let moved = Holds-on _ _ _ _ _ _ c.loop-place.invariant.holds c.in_ok-make_room.ensures.moved in
     let same = c.places-place-items.ensures.places in
     let line = leaf_line-pieces c.place-item.result _ _ _ c.push_place.ensures.bytes c.push-in-loop-place.ensures.bytes in
     record {
-      holds = rw (line, mesh_front-next mesh i c.place-item.result (omega (arith, ap length same)) (rw same at c.place-item.is)) (Holds-more _ _ _ _ (leaf_line c.place-item.result) moved);
+      holds = rw (line, mesh_front-next mesh i c.place-item.result (omega (arith, ap length same)) (rw same at c.place-item.is)) (Holds-next _ _ _ _ _ _ _ c.loop-place.invariant.holds c.in_ok-make_room.ensures.moved);
       same_rest = c.in_ok-make_room.ensures.same_rest ∙ c.loop-place.invariant.same_rest;
       no_fall = omega (arith, c.in_ok-make_room.ensures.cause, c.loop-place.invariant.no_fall);
     }
