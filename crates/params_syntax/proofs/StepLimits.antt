@@ -1,7 +1,6 @@
 -- The limits of what was read: a step keeps them where its token is formed and its list isn't too long, and a state
 -- had them where the next one has.
 use Rattle.std.proofs.Common.{◌≡◌, ℕ, ◌≤◌, List, [], ◌∷◌, ◌++◌, length, Some, length-append, arith}
-use Rattle.params_syntax.specs.declared.tree.Atom.{Atom}
 use Rattle.params_syntax.specs.declared.tree.Value.{Value}
 use Rattle.params_syntax.specs.declared.tree.Value.TheVariants as values
 use Rattle.params_syntax.specs.declared.tree.Setting.{Setting}

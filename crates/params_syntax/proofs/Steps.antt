@@ -1,5 +1,5 @@
 -- The steps of reading, one by one: what holds of each of them holds of every step.
-use Rattle.std.proofs.Common.{◌≡◌, ℕ, List, [], ◌∷◌, ◌++◌, Option, Some, subst}
+use Rattle.std.proofs.Common.{◌≡◌, ℕ, List, [], ◌∷◌, ◌++◌, Some, subst}
 use Rattle.std.proofs.lemmas.Option.{same_Some}
 use Rattle.params_syntax.specs.declared.tree.Atom.{Atom}
 use Rattle.params_syntax.specs.declared.tree.Value.{Value}
