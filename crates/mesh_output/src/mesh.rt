@@ -2,7 +2,7 @@
 ghost use Rattle.std.specs.Prelude.{◌≡◌};
 ghost use Rattle.cello_io.specs.Counts.{HasCause};
 ghost use Rattle.cello_io.specs.Writes.{Wrote};
-ghost use Rattle.mesh_output.specs.Lines.{count_line, leaf_line, mesh_text};
+ghost use Rattle.mesh_output.specs.Lines.{mesh_text};
 
 use crate::page::{Page, make_room};
 use cello_io::{Failed, Sink, write_all};

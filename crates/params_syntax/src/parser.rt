@@ -1,5 +1,5 @@
 //! The state of reading after one more token.
-ghost use Rattle.std.specs.Prelude.{◌≡◌, ℕ, ◌<◌, ◌≤◌, IfOk, Some, None};
+ghost use Rattle.std.specs.Prelude.{◌≡◌, IfOk};
 ghost use Rattle.params_syntax.specs.Machine.Steps.{StepsTo};
 ghost use Rattle.params_syntax.specs.Machine.States.{on_name, on_atom, in_sub, on_opens, closed, on_closes, on_equals, with_setting, on_ends, on_list_opens, on_list_closes, on_comma, on_sign, step};
 

@@ -1,5 +1,5 @@
 //! Reading a text: its tree, or its first fault.
-ghost use Rattle.std.specs.Prelude.{◌≡◌, ℕ, ◌≤◌, length, IfOk, IfErr};
+ghost use Rattle.std.specs.Prelude.{◌≡◌, ◌≤◌, length, IfOk, IfErr};
 ghost use Rattle.params_syntax.specs.Limits.{longest};
 ghost use Rattle.params_syntax.specs.Reading.{Spells, IsUnread};
 ghost use Rattle.params_syntax.specs.Machine.Steps.{fault_of, refusal_of, KeepsTop, end_of};
