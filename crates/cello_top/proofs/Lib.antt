@@ -1,7 +1,6 @@
 mod Limits
 mod OneWord
 mod Greater
-mod SyntaxLines
 mod LevelLimits
 mod TextEnds
 mod RunEnds

@@ -1,6 +1,7 @@
 -- The line of each fault, and its status.
-use Rattle.std.specs.Prelude.{ℕ, List, [], ◌∷◌, ◌++◌, codes, decimal, Option, Some, None}
+use Rattle.std.specs.Prelude.{ℕ, List, ◌++◌, codes, decimal, Option, Some, None}
 use Rattle.block_index.specs.Places.{Cube}
+use Rattle.text_line.specs.Shown.{shown_name, shown_place}
 use Rattle.params_syntax.specs.declared.fault.SyntaxFault.{SyntaxFault}
 use Rattle.params_syntax.specs.declared.fault.SyntaxKind.{SyntaxKind}
 use Rattle.params_syntax.specs.declared.fault.SyntaxKind.TheVariants as syntax
@@ -30,11 +31,6 @@ kind_name Size = codes "Size"
 kind_name Courant = codes "Courant"
 kind_name TotalTooLarge = codes "TotalTooLarge"
 
--- a name, or `-` where there is none
-abbrev pub shown_name : List ℕ → List ℕ
-shown_name [] = codes "-"
-shown_name (b ∷ bs) = b ∷ bs
-
 unfoldable pub usage_line : List ℕ
 usage_line = codes "cello: usage: check, solo, resume NAME --until C, demo SEED SIZE, run --workers N, restart NAME --workers N --until C\n"
 
@@ -48,10 +44,6 @@ syntax_line fault = codes "cello: syntax: " ++ syntax_name fault.kind ++ codes "
 
 unfoldable pub unbuilt_line : List ℕ → List ℕ → List ℕ
 unbuilt_line group key = codes "cello: not built: " ++ shown_name group ++ codes " " ++ shown_name key ++ codes "\n"
-
--- a place as its level and coordinates
-abbrev pub shown_place : Cube → List ℕ
-shown_place c = decimal c.level ++ codes " " ++ decimal c.x ++ codes " " ++ decimal c.y ++ codes " " ++ decimal c.z
 
 unfoldable pub level_limit_line : ℕ → Cube → List ℕ
 level_limit_line phase place = codes "cello: level limit in phase " ++ decimal phase ++ codes " at " ++ shown_place place ++ codes "\n"

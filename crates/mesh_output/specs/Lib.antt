@@ -1,1 +1,3 @@
+-- What contracts of the output cite. `Lemmas` is for the proofs alone.
 pub mod Lines
+pub mod Lemmas

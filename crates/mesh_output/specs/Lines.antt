@@ -2,6 +2,7 @@
 use Rattle.std.specs.Prelude.{ℕ, List, ◌++◌, length, codes, decimal}
 use Rattle.std.specs.List.{flat_map}
 use Rattle.block_index.specs.Places.{Cube}
+use Rattle.text_line.specs.Shown.{shown_place}
 
 unfoldable pub header_line : List ℕ
 header_line = codes "cello report 1\n"
@@ -20,8 +21,7 @@ count_line leaves = codes "mesh " ++ decimal leaves ++ codes "\n"
 
 -- a leaf: its level and coordinates
 unfoldable pub leaf_line : Cube → List ℕ
-leaf_line c =
-    decimal c.level ++ codes " " ++ decimal c.x ++ codes " " ++ decimal c.y ++ codes " " ++ decimal c.z ++ codes "\n"
+leaf_line c = shown_place c ++ codes "\n"
 
 -- a mesh: the number of its leaves, and each of them in order
 unfoldable pub mesh_text : List Cube → List ℕ

@@ -1,11 +1,11 @@
 //! What a run writes: the lines of its report and the text of its mesh.
 //!
-//! Each writer appends exactly its line, as one piece, and takes no memory; after `Failed` a part of it was
-//! written. The lines stand in `specs/Lines.antt`.
+//! Each writer appends exactly its text and takes no memory: a line as one piece, a mesh in pages of some kilobytes.
+//! After `Failed` a part of it was written. The lines stand in `specs/Lines.antt`.
 #![tactic(auto)]
 
-mod line;
 mod mesh;
+mod page;
 mod report;
 
 pub use mesh::write_mesh;

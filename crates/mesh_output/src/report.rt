@@ -1,11 +1,11 @@
 //! The lines of a report.
-ghost use Rattle.std.specs.Prelude.{◌≡◌};
+ghost use Rattle.std.specs.Prelude.{◌≡◌, ◌≤◌, ◌++◌, length, codes, decimal};
 ghost use Rattle.cello_io.specs.Counts.{HasCause};
 ghost use Rattle.cello_io.specs.Writes.{Wrote};
 ghost use Rattle.mesh_output.specs.Lines.{header_line, phase_line, cycle_line, end_line};
 
-use crate::line::{Line, push_number};
 use cello_io::{Failed, Sink, write_all};
+use text_line::Line;
 
 /// Writes the first line of a report.
 #[tactic(auto, unfolding(crate::specs::Lines::header_line))]
@@ -17,6 +17,19 @@ pub fn write_header<K: Sink>(sink: &mut K) -> Result<(), Failed>
     write_all(sink, b"cello report 1\n")
 }
 
+/// A step of the run, its number, and the number of leaves after it.
+fn leaves_after(step: &[u8], number: u32, leaves: u32) -> Line
+    requires short { length step.now ≤ 32 }
+    ensures line { result ≡ step.now ++ decimal number ++ codes " leaves " ++ decimal leaves ++ codes "\n" }
+{
+    let mut line = Line::of(step);
+    line.push_number(number);
+    line.push(b" leaves ");
+    line.push_number(leaves);
+    line.push(b"\n");
+    line
+}
+
 /// Writes the line of an adapt phase: its number, and the number of leaves after it.
 #[tactic(auto, unfolding(crate::specs::Lines::phase_line))]
 pub fn write_phase_line<K: Sink>(phase: u32, leaves: u32, sink: &mut K) -> Result<(), Failed>
@@ -24,13 +37,7 @@ pub fn write_phase_line<K: Sink>(phase: u32, leaves: u32, sink: &mut K) -> Resul
     ensures same_rest { K.rest sink.new ≡ K.rest sink.old }
     ensures cause { HasCause (K.write_faults sink.old) (K.write_faults sink.new) result }
 {
-    let mut line = Line::new();
-    line.push_str("phase ");
-    push_number(&mut line, phase);
-    line.push_str(" leaves ");
-    push_number(&mut line, leaves);
-    line.push_str("\n");
-    write_all(sink, line.as_str().as_bytes())
+    write_all(sink, leaves_after(b"phase ", phase, leaves).bytes())
 }
 
 /// Writes the line of a cycle: its number, and the number of leaves after it.
@@ -40,13 +47,7 @@ pub fn write_cycle_line<K: Sink>(cycle: u32, leaves: u32, sink: &mut K) -> Resul
     ensures same_rest { K.rest sink.new ≡ K.rest sink.old }
     ensures cause { HasCause (K.write_faults sink.old) (K.write_faults sink.new) result }
 {
-    let mut line = Line::new();
-    line.push_str("cycle ");
-    push_number(&mut line, cycle);
-    line.push_str(" leaves ");
-    push_number(&mut line, leaves);
-    line.push_str("\n");
-    write_all(sink, line.as_str().as_bytes())
+    write_all(sink, leaves_after(b"cycle ", cycle, leaves).bytes())
 }
 
 /// Writes the last line of a report.

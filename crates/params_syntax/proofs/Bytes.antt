@@ -1,15 +1,15 @@
 -- The kinds of bytes: no letter, digit or `_` is a sign, a blank or the start of a comment.
-use Rattle.std.proofs.Common.{◌≡◌, ℕ, ◌≤◌, Bool, true, false, ◌==◌, nat_le, List, ◌∷◌, refl, subst, arith}
+use Rattle.std.proofs.Common.{◌≡◌, ℕ, ◌≤◌, Bool, true, false, ◌==◌, nat_le, List, ◌∷◌, None, refl, subst, arith}
 use Rattle.std.proofs.lemmas.Bool.{both_ways, ne_eqb, and_parts, leb-true, lt-leb}
-use Rattle.params_syntax.specs.Tokens.{is_digit, begins_name, is_name_byte, is_sign, after_gap}
+use Rattle.params_syntax.specs.Tokens.{is_digit, begins_name, is_name_byte, sign_of, after_gap}
 
 -- a byte with a property isn't a byte without it
 apart : (test : ℕ → Bool) (b k : ℕ) → test b ≡ true → test k ≡ false → (b == k) ≡ false
 apart test b k is not_there =
     ne_eqb b k (λ same. both_ways (test k) not_there (subst (λ n. test n ≡ true) same is))
 
-pub is_name_byte-is_sign : (b : ℕ) → is_name_byte b ≡ true → is_sign b ≡ false
-is_name_byte-is_sign b is =
+pub is_name_byte-sign_of : (b : ℕ) → is_name_byte b ≡ true → sign_of b ≡ None
+is_name_byte-sign_of b is =
     let not_at = λ (k : ℕ) (e : is_name_byte k ≡ false). apart is_name_byte b k is e in
     rw (not_at 123 refl, not_at 125 refl, not_at 61 refl, not_at 59 refl, not_at 91 refl, not_at 93 refl, not_at 44 refl) refl
 

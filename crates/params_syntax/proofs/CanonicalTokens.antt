@@ -9,9 +9,11 @@ use Rattle.params_syntax.specs.declared.tree.Setting.{Setting}
 use Rattle.params_syntax.specs.declared.tree.Item.{Item}
 use Rattle.params_syntax.specs.declared.tree.Item.TheVariants.{Set, Sub}
 use Rattle.params_syntax.specs.declared.tree.Group.{Group}
-use Rattle.params_syntax.specs.Tokens.{Token, NameToken}
+use Rattle.params_syntax.specs.declared.token.Token.{Token}
+use Rattle.params_syntax.specs.declared.token.Token.TheVariants as tokens
 use Rattle.params_syntax.specs.Trees.{Each, IsName, IsAtom, IsValue, IsSetting, IsItem, IsGroup, IsTree}
 use Rattle.params_syntax.specs.Grammar.{opens, closes, equals, ends, list_opens, list_closes, comma, elements, value_tokens, setting_tokens, item_tokens, group_tokens, tree_tokens}
+use Rattle.params_syntax.specs.Limits.{longest}
 use Rattle.params_syntax.specs.Reading.{Spells}
 use Rattle.params_syntax.specs.Canonical.{atom_text, elements_text, value_text, setting_text, sub_setting_text, item_text, group_text, canonical_text}
 use Rattle.params_syntax.proofs.TextTokens.{HasTokens, HasTokens-gap, HasTokens-next, HasTokens-name, HasTokens-atom, flat_map-tokens}
@@ -67,7 +69,7 @@ sub_setting-tokens s text ts is has =
 -- a name, ` {` and a line feed, what stands between the braces, and what closes it
 block-tokens : (name body closing text : List ℕ) (body_tokens ts : List Token) → IsName name
     → HasTokens (body ++ (closing ++ text)) (body_tokens ++ closes ∷ ts)
-    → HasTokens (name ++ 32 ∷ 123 ∷ 10 ∷ [] ++ body ++ closing ++ text) (NameToken name ∷ opens ∷ (body_tokens ++ closes ∷ [] ++ ts))
+    → HasTokens (name ++ 32 ∷ 123 ∷ 10 ∷ [] ++ body ++ closing ++ text) (tokens.Name name ∷ opens ∷ (body_tokens ++ closes ∷ [] ++ ts))
 block-tokens name body closing text body_tokens ts is has =
     let tail = body ++ (closing ++ text) in
     let tail_tokens = body_tokens ++ closes ∷ ts in
@@ -94,7 +96,7 @@ item-tokens (Set s) text ts is has =
 item-tokens (Sub name sets) text ts is has =
     let body = flat_map sub_setting_text sets in
     let block = name ++ 32 ∷ 123 ∷ 10 ∷ [] ++ body ++ 32 ∷ 32 ∷ 125 ∷ 10 ∷ [] ++ text in
-    let block_tokens = NameToken name ∷ opens ∷ (flat_map setting_tokens sets ++ closes ∷ [] ++ ts) in
+    let block_tokens = tokens.Name name ∷ opens ∷ (flat_map setting_tokens sets ++ closes ∷ [] ++ ts) in
     HasTokens-gap block (32 ∷ 32 ∷ block) block_tokens refl
     (block-tokens name body (32 ∷ 32 ∷ 125 ∷ 10 ∷ []) text (flat_map setting_tokens sets) ts is.0
     (flat_map-tokens sub_setting_text setting_tokens IsSetting sub_setting-tokens sets (32 ∷ 32 ∷ 125 ∷ 10 ∷ text) (closes ∷ ts) is.1
@@ -113,7 +115,7 @@ canonical-tokens groups is =
     rw (append-nil (canonical_text groups), append-nil (tree_tokens groups)) at all
 
 -- a canonical text spells its tree
-pub canonical_text-spells : (groups : List Group) → IsTree groups → length (canonical_text groups) ≤ 65536 → Spells (canonical_text groups) groups
+pub canonical_text-spells : (groups : List Group) → IsTree groups → length (canonical_text groups) ≤ longest → Spells (canonical_text groups) groups
 canonical_text-spells groups is short =
     let has = canonical-tokens groups is in
     record { short = short; limits = is; rest = has.rest; tokens = has.tokens; ended = has.ended }

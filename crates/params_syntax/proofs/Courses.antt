@@ -1,16 +1,19 @@
 -- How far a text was read: the tokens at its front, and the state that they lead to. What ends there is the tree or the
 -- first fault.
-use Rattle.std.proofs.Common.{◌≡◌, ℕ, ◌<◌, ◌≤◌, List, [], ◌∷◌, ◌++◌, length, Some, None, Err, refl, sym, ap, ◌∙◌, subst}
+use Rattle.std.proofs.Common.{◌≡◌, ℕ, ◌<◌, ◌≤◌, List, [], ◌∷◌, ◌++◌, length, Some, None, Ok, Err, Result, refl, sym, ap, ◌∙◌, subst}
+use Rattle.params_syntax.specs.Limits.{most_elements, longest}
 use Rattle.params_syntax.specs.declared.fault.SyntaxKind.{SyntaxKind}
+use Rattle.params_syntax.specs.declared.fault.SyntaxFault.{SyntaxFault}
 use Rattle.params_syntax.specs.declared.fault.SyntaxKind.TheVariants.{Length, Unexpected, End}
 use Rattle.params_syntax.specs.declared.tree.Group.{Group}
 use Rattle.params_syntax.specs.declared.state.State.{State}
-use Rattle.params_syntax.specs.declared.state.State.TheVariants.{Top}
-use Rattle.params_syntax.specs.Tokens.{Token, after_gap, token_at, NextToken, FrontTokens}
-use Rattle.params_syntax.specs.Reading.{longest, Spells, FrontAllowed, fault_at, HasFault, unformed, unexpected, too_many, unended}
-use Rattle.params_syntax.specs.States.{step, open_elements}
+use Rattle.params_syntax.specs.declared.state.State.TheVariants.{Top, GroupNamed, Inside, Named, Assigned, Listed, Element, Separated, Valued}
+use Rattle.params_syntax.specs.declared.token.Token.{Token}
+use Rattle.params_syntax.specs.Tokens.{after_gap, token_at, NextToken, FrontTokens}
+use Rattle.params_syntax.specs.Reading.{Spells, FrontAllowed, fault_at, HasFault, unformed, unexpected, too_many, unended, ReadsAs}
+use Rattle.params_syntax.specs.Machine.States.{step, open_elements, at_top}
 use Rattle.params_syntax.proofs.Runs.{run, start, run-tree_tokens}
-use Rattle.params_syntax.proofs.StepLimits.{Keeps, step-keeps}
+use Rattle.params_syntax.proofs.StepLimits.{KeepsLimits, step-keeps}
 use Rattle.params_syntax.proofs.Reached.{run-few, run-begin, begin-run, run-tree, run-push, run-counts}
 use Rattle.params_syntax.proofs.Fronts.{FrontTokens-push, NextToken-formed}
 
@@ -20,13 +23,13 @@ pub record Course (text : List ℕ) (s : State) (rest : List ℕ) : Type 0 where
   pub ts : List Token
   pub tokens : FrontTokens text ts rest
   pub reached : run ts start ≡ Some s
-  pub keeps : Keeps s
+  pub keeps : KeepsLimits s
 
 pub course_begins : (text : List ℕ) → length text ≤ longest → Course text (Top []) text
 course_begins text short = record { short = short; ts = []; tokens = refl; reached = refl; keeps = tt }
 
 pub course_goes_on : (text : List ℕ) (s : State) (rest : List ℕ) (t : Token) (after : List ℕ) (next : State) → Course text s rest
-    → NextToken rest t after → step s t ≡ Some next → open_elements next ≤ 64 → Course text next after
+    → NextToken rest t after → step s t ≡ Some next → open_elements next ≤ most_elements → Course text next after
 course_goes_on text s rest t after next c token is few = record {
   short = c.short;
   ts = c.ts ++ t ∷ [];
@@ -69,10 +72,10 @@ course_unexpected text s rest t after c token none =
     refl
 
 pub course_too_many : (text : List ℕ) (s : State) (rest : List ℕ) (t : Token) (after : List ℕ) (next : State) → Course text s rest
-    → NextToken rest t after → step s t ≡ Some next → 64 < open_elements next → HasFault text (fault_at text (after_gap rest) Length)
+    → NextToken rest t after → step s t ≡ Some next → most_elements < open_elements next → HasFault text (fault_at text (after_gap rest) Length)
 course_too_many text s rest t after next c token is many =
     let there : run (c.ts ++ t ∷ []) start ≡ Some next = run-push c.ts t s c.reached ∙ is in
-    let P : ℕ → Type 0 = λ n. 64 < n in
+    let P : ℕ → Type 0 = λ n. most_elements < n in
     too_many c.ts rest t after (allowed text s rest c) token (run-begin (c.ts ++ t ∷ []) next there)
     (subst P (sym (run-counts (c.ts ++ t ∷ []) next there)) many) refl
 
@@ -90,3 +93,27 @@ course_unended text s rest c open_ ended =
     let same : s ≡ Top groups = cc in
     subst IsOpen same open_)
     refl
+
+-- ---- the end of a text
+
+-- what holds between groups, and inside of one
+pub by_end : {X : Type 0} (top : List Group → X) (inside : X) (P : State → X → Type 0) → ((gs : List Group) → P (Top gs) (top gs))
+    → ((s : State) → IsOpen s → P s inside) → (s : State) → P s (at_top top inside s)
+by_end top inside P t o (Top gs) = t gs
+by_end top inside P t o (GroupNamed gs g) = o (GroupNamed gs g) tt
+by_end top inside P t o (Inside f) = o (Inside f) tt
+by_end top inside P t o (Named f n) = o (Named f n) tt
+by_end top inside P t o (Assigned f n) = o (Assigned f n) tt
+by_end top inside P t o (Listed f n) = o (Listed f n) tt
+by_end top inside P t o (Element f n atoms) = o (Element f n atoms) tt
+by_end top inside P t o (Separated f n atoms) = o (Separated f n atoms) tt
+by_end top inside P t o (Valued f n v) = o (Valued f n v) tt
+
+-- the tree, or the fault at the end
+abbrev pub end_reading : List ℕ → State → Result (List Group) SyntaxFault
+end_reading text s = at_top Ok (Err (record { offset = length text; kind = End })) s
+
+pub course_ends : (text : List ℕ) (s : State) (rest : List ℕ) → Course text s rest → after_gap rest ≡ [] → ReadsAs text (end_reading text s)
+course_ends text s rest c ended =
+    by_end Ok _ (λ r reading. Course text r rest → ReadsAs text reading)
+    (λ gs c. course_spells text gs rest c ended) (λ r open_ c. course_unended text r rest c open_ ended) s c

@@ -1,48 +1,32 @@
 -- Each text has a tree or a first fault.
 use Rattle.std.proofs.Common.{◌≡◌, ℕ, zero, suc, ◌<◌, List, [], ◌∷◌, length, Option, Some, None, Ok, Err, Result, refl, inl, inr, arith}
 use Rattle.std.proofs.lemmas.Bool.{cases_lt}
+use Rattle.params_syntax.specs.Limits.{most_elements, longest}
 use Rattle.params_syntax.specs.declared.fault.SyntaxKind.{SyntaxKind}
-use Rattle.params_syntax.specs.declared.fault.SyntaxKind.TheVariants.{Long, Length, Unexpected, End}
+use Rattle.params_syntax.specs.declared.fault.SyntaxKind.TheVariants.{Long, Length, Unexpected}
 use Rattle.params_syntax.specs.declared.fault.SyntaxFault.{SyntaxFault}
 use Rattle.params_syntax.specs.declared.tree.Group.{Group}
 use Rattle.params_syntax.specs.declared.state.State.{State}
-use Rattle.params_syntax.specs.declared.state.State.TheVariants.{Top, GroupNamed, Inside, Named, Assigned, Listed, Element, Separated, Valued}
-use Rattle.params_syntax.specs.Tokens.{Token, after_gap, token_at, NextToken}
-use Rattle.params_syntax.specs.Reading.{longest, fault_at, HasFault, too_long, ReadsAs}
-use Rattle.params_syntax.specs.States.{step, open_elements}
-use Rattle.params_syntax.proofs.Courses.{Course, course_begins, course_goes_on, course_spells, course_unformed, course_unexpected, course_too_many, course_unended}
+use Rattle.params_syntax.specs.declared.state.State.TheVariants.{Top}
+use Rattle.params_syntax.specs.declared.token.Token.{Token}
+use Rattle.params_syntax.specs.Tokens.{Found, after_gap, token_at, NextToken}
+use Rattle.params_syntax.specs.Reading.{fault_at, too_long, ReadsAs}
+use Rattle.params_syntax.specs.Machine.States.{step, open_elements}
+use Rattle.params_syntax.proofs.Courses.{Course, course_begins, course_goes_on, course_unformed, course_unexpected, course_too_many, end_reading, course_ends}
 use Rattle.params_syntax.proofs.Fronts.{NextToken-shorter}
 
 abbrev pub Reading : List ℕ → Type 0
 Reading text = (reading : Result (List Group) SyntaxFault) × ReadsAs text reading
-
--- a fault at the end
-ends_open : (text : List ℕ) → HasFault text (record { offset = length text; kind = End }) → Reading text
-ends_open text fault = (Err (record { offset = length text; kind = End }), fault)
-
-ends_at : (text : List ℕ) (s : State) (rest : List ℕ) → Course text s rest → after_gap rest ≡ [] → Reading text
-ends_at text (Top gs) rest c e = (Ok gs, course_spells text gs rest c e)
-ends_at text (GroupNamed gs g) rest c e = ends_open text (course_unended text (GroupNamed gs g) rest c tt e)
-ends_at text (Inside f) rest c e = ends_open text (course_unended text (Inside f) rest c tt e)
-ends_at text (Named f n) rest c e = ends_open text (course_unended text (Named f n) rest c tt e)
-ends_at text (Assigned f n) rest c e = ends_open text (course_unended text (Assigned f n) rest c tt e)
-ends_at text (Listed f n) rest c e = ends_open text (course_unended text (Listed f n) rest c tt e)
-ends_at text (Element f n atoms) rest c e = ends_open text (course_unended text (Element f n atoms) rest c tt e)
-ends_at text (Separated f n atoms) rest c e = ends_open text (course_unended text (Separated f n atoms) rest c tt e)
-ends_at text (Valued f n v) rest c e = ends_open text (course_unended text (Valued f n v) rest c tt e)
 
 -- the next token, and reading from there on
 goes_on : (text : List ℕ) (s : State) (rest : List ℕ) (t : Token) (after : List ℕ) → Course text s rest → NextToken rest t after
     → ((next : State) → Course text next after → Reading text) → (o : Option State) → step s t ≡ o → Reading text
 goes_on text s rest t after c token more None none = (Err (fault_at text (after_gap rest) Unexpected), course_unexpected text s rest t after c token none)
 goes_on text s rest t after c token more (Some next) is =
-    elim (cases_lt 64 (open_elements next)) [
+    elim (cases_lt most_elements (open_elements next)) [
       | inl many ↦ (Err (fault_at text (after_gap rest) Length), course_too_many text s rest t after next c token is many)
       | inr few ↦ more next (course_goes_on text s rest t after next c token is few)
     ]
-
-abbrev Found : Type 0
-Found = Token × List ℕ
 
 reads_token : (text : List ℕ) (s : State) (rest : List ℕ) (b : ℕ) (bs : List ℕ) → Course text s rest → after_gap rest ≡ b ∷ bs
     → ((next : State) (after : List ℕ) → length after < length rest → Course text next after → Reading text)
@@ -55,7 +39,7 @@ reads_token text s rest b bs c here more (Ok x) is =
 reads_here : (text : List ℕ) (s : State) (rest : List ℕ) → Course text s rest
     → ((next : State) (after : List ℕ) → length after < length rest → Course text next after → Reading text)
     → (here : List ℕ) → after_gap rest ≡ here → Reading text
-reads_here text s rest c more [] e = ends_at text s rest c e
+reads_here text s rest c more [] e = (end_reading text s, course_ends text s rest c e)
 reads_here text s rest c more (b ∷ bs) e = reads_token text s rest b bs c e more (token_at b bs) refl
 
 reads_from : (fuel : ℕ) (text : List ℕ) (s : State) (rest : List ℕ) → length rest < fuel → Course text s rest → Reading text
@@ -66,6 +50,6 @@ reads_from (suc fuel) text s rest h c =
 pub each_reads : (text : List ℕ) → Reading text
 each_reads text =
     elim (cases_lt longest (length text)) [
-      | inl long ↦ (Err (record { offset = 65536; kind = Long }), too_long long refl)
+      | inl long ↦ (Err (record { offset = longest; kind = Long }), too_long long refl)
       | inr short ↦ reads_from (suc (length text)) text (Top []) text (omega arith) (course_begins text short)
     ]

@@ -1,17 +1,16 @@
 -- A token that can be formed has its form, and what stands after it is shorter.
-use Rattle.std.proofs.Common.{◌≡◌, ℕ, zero, suc, ◌-◌, ◌≤◌, ℤ, pos, List, [], ◌∷◌, length, drop, Bool, true, false, cond, eqb, leb, ◌&&◌, Ok, Err, Result, refl, ap, ◌∙◌, subst, length-drop, arith}
+use Rattle.std.proofs.Common.{◌≡◌, ℕ, zero, suc, ◌-◌, ◌≤◌, ℤ, pos, List, [], ◌∷◌, length, drop, Bool, true, false, cond, eqb, leb, ◌&&◌, Option, Some, None, Ok, Err, Result, refl, ap, ◌∙◌, subst, length-drop, arith}
 use Rattle.std.specs.List.{take_while}
 use Rattle.std.specs.Str.Parse.{digits_value}
 use Rattle.std.proofs.lemmas.List.Sums.{take_while-cons}
 use Rattle.std.proofs.lemmas.Bool.{leb-true}
 use Rattle.params_syntax.specs.declared.fault.SyntaxKind.{SyntaxKind}
-use Rattle.params_syntax.specs.Tokens.{Token, is_digit, begins_name, is_name_byte, is_word_byte, is_blank, is_sign, skipped, after_gap, negative, greatest, name_at, digits_at, closed_at, word_at, token_at}
+use Rattle.params_syntax.specs.declared.token.Sign.{Sign}
+use Rattle.params_syntax.specs.declared.token.Token.{Token}
+use Rattle.params_syntax.specs.Limits.{longest_name, greatest}
+use Rattle.params_syntax.specs.Tokens.{Found, is_digit, begins_name, is_name_byte, is_word_byte, is_blank, sign_of, begun_at, skipped, after_gap, negative, name_at, digits_at, closed_at, word_at, token_at}
 use Rattle.params_syntax.specs.Trees.{Each, IsNumber}
 use Rattle.params_syntax.proofs.StepLimits.{IsFormed}
-
--- a token, and what stands after it
-abbrev Found : Type 0
-Found = Token × List ℕ
 
 -- what a reading of a token answers
 pub record IsGood (most : ℕ) (t : Token) (after : List ℕ) : Type 0 where
@@ -46,9 +45,9 @@ name-good : (b : ℕ) (bs : List ℕ) → begins_name b ≡ true → Good (lengt
 name-good b bs first =
     let is_name : is_name_byte b ≡ true = rw first refl in
     let name : take_while is_name_byte (b ∷ bs) ≡ b ∷ take_while is_name_byte bs = take_while-cons is_name_byte b bs ∙ ap (λ t. cond t (b ∷ take_while is_name_byte bs) []) is_name in
-    rw name (chosen (leb (length (b ∷ take_while is_name_byte bs)) 32) (Good (length bs)) _ _
+    rw name (chosen (leb (length (b ∷ take_while is_name_byte bs)) longest_name) (Good (length bs)) _ _
     (λ few. record {
-      formed = (first, Each-take_while is_name_byte bs, leb-true _ 32 few);
+      formed = (first, Each-take_while is_name_byte bs, leb-true _ longest_name few);
       shorter = after-shorter (length (take_while is_name_byte bs)) bs;
     })
     (λ many. tt))
@@ -78,9 +77,9 @@ word-good bytes = closes (take_while is_word_byte bytes) (Each-take_while is_wor
     closes : (word : List ℕ) → Each (λ c. is_word_byte c ≡ true) word → (rest : List ℕ) → length rest ≤ length bytes → Good (length bytes) (closed_at word rest)
     closes word each [] short = tt
     closes word each (b ∷ rest) short =
-        chosen (eqb b 34 && leb (length word) 32) (Good (length bytes)) _ _
+        chosen (eqb b 34 && leb (length word) longest_name) (Good (length bytes)) _ _
         (λ test. record {
-          formed = (each, leb-true _ 32 (both _ _ test).1);
+          formed = (each, leb-true _ longest_name (both _ _ test).1);
           shorter = omega arith;
         })
         (λ no. tt)
@@ -90,12 +89,15 @@ less m n (Ok x) h g = record { formed = g.formed; shorter = omega (arith, g.shor
 less m n (Err k) h g = tt
 
 token-good : (b : ℕ) (bs : List ℕ) → Good (length bs) (token_at b bs)
-token-good b bs =
-    chosen (is_sign b) (Good (length bs)) _ _ (λ e. record { formed = tt; shorter = omega arith }) (λ not_sign.
-    chosen (begins_name b) (Good (length bs)) _ _ (λ e. name-good b bs e) (λ not_name.
-    chosen (is_digit b) (Good (length bs)) _ _ (λ e. less (length (b ∷ bs) - 1) (length bs) _ (omega arith) (digits-good pos (b ∷ bs) (λ n h. h))) (λ not_digit.
-    chosen (eqb b 45) (Good (length bs)) _ _ (λ e. less (length bs - 1) (length bs) _ (omega arith) (digits-good negative bs IsNumber-negative)) (λ not_minus.
-    chosen (eqb b 34) (Good (length bs)) _ _ (λ e. word-good bs) (λ nothing. tt)))))
+token-good b bs = begun (sign_of b)
+  where
+    begun : (o : Option Sign) → Good (length bs) (begun_at o b bs)
+    begun (Some sign) = record { formed = tt; shorter = omega arith }
+    begun None =
+        chosen (begins_name b) (Good (length bs)) _ _ (λ e. name-good b bs e) (λ not_name.
+        chosen (is_digit b) (Good (length bs)) _ _ (λ e. less (length (b ∷ bs) - 1) (length bs) _ (omega arith) (digits-good pos (b ∷ bs) (λ n h. h))) (λ not_digit.
+        chosen (eqb b 45) (Good (length bs)) _ _ (λ e. less (length bs - 1) (length bs) _ (omega arith) (digits-good negative bs IsNumber-negative)) (λ not_minus.
+        chosen (eqb b 34) (Good (length bs)) _ _ (λ e. word-good bs) (λ nothing. tt))))
 
 pub token_at-good : (b : ℕ) (bs : List ℕ) (t : Token) (after : List ℕ) → token_at b bs ≡ Ok (t, after) → IsGood (length bs) t after
 token_at-good b bs t after e = let P : Result Found SyntaxKind → Type 0 = Good (length bs) in subst P e (token-good b bs)

@@ -2,7 +2,8 @@
 use Rattle.std.proofs.Common.{◌≡◌, ℕ, ◌<◌, List, [], ◌∷◌, ◌++◌, length, Ok, Err, Result, refl, sym, ap, ◌∙◌, subst, arith}
 use Rattle.params_syntax.specs.declared.fault.SyntaxKind.{SyntaxKind}
 use Rattle.params_syntax.specs.declared.fault.SyntaxKind.TheVariants.{Byte}
-use Rattle.params_syntax.specs.Tokens.{Token, token_at, NextToken, FrontTokens}
+use Rattle.params_syntax.specs.declared.token.Token.{Token}
+use Rattle.params_syntax.specs.Tokens.{Found, token_at, NextToken, FrontTokens}
 use Rattle.params_syntax.proofs.StepLimits.{IsFormed}
 use Rattle.params_syntax.proofs.Formed.{token_at-good, after_gap-shorter}
 
@@ -25,9 +26,6 @@ NextToken-shorter rest t after next =
 pub record SameToken (t : Token) (after : List ℕ) (u : Token) (other : List ℕ) : Type 0 where
   pub token : t ≡ u
   pub left : after ≡ other
-
-abbrev Found : Type 0
-Found = Token × List ℕ
 
 -- the token of a reading, and what it leaves
 abbrev token_or : Token → Result Found SyntaxKind → Token

@@ -1,3 +1,4 @@
+-- Lemmas by subject: steps and runs of the reader, tokens of a text, readings, canonical texts.
 pub mod Runs
 pub mod Steps
 pub mod StepTokens

@@ -2,18 +2,21 @@
 use Rattle.std.proofs.Common.{◌≡◌, ℕ, ◌<◌, ◌≤◌, List, [], ◌∷◌, ◌++◌, length, cond, leb, Option, Some, None, Ok, Err, Result, refl, sym, ap, ◌∙◌, subst, inl, inr, append_assoc, arith}
 use Rattle.std.proofs.lemmas.Bool.{cases_lt, le-leb}
 use Rattle.std.proofs.lemmas.Bool.Decides.{leb_tells}
+use Rattle.params_syntax.specs.Limits.{most_elements, longest}
 use Rattle.params_syntax.specs.declared.fault.SyntaxKind.{SyntaxKind}
 use Rattle.params_syntax.specs.declared.fault.SyntaxKind.TheVariants.{Long, Length, Unexpected, End}
 use Rattle.params_syntax.specs.declared.fault.SyntaxFault.{SyntaxFault}
 use Rattle.params_syntax.specs.declared.tree.Group.{Group}
 use Rattle.params_syntax.specs.declared.state.State.{State}
-use Rattle.params_syntax.specs.declared.state.State.TheVariants.{Top, GroupNamed, Inside, Named, Assigned, Listed, Element, Separated, Valued}
-use Rattle.params_syntax.specs.Tokens.{Token, after_gap, token_at, NextToken, FrontTokens}
+use Rattle.params_syntax.specs.declared.state.State.TheVariants.{Top}
+use Rattle.params_syntax.specs.declared.token.Token.{Token}
+use Rattle.params_syntax.specs.Tokens.{Found, after_gap, token_at, NextToken, FrontTokens}
 use Rattle.params_syntax.specs.Grammar.{tree_tokens, last_elements}
-use Rattle.params_syntax.specs.Reading.{longest, Spells, FrontAllowed, fault_at, HasFault, too_long, unformed, unexpected, too_many, unended, ReadsAs}
-use Rattle.params_syntax.specs.States.{step, open_elements}
+use Rattle.params_syntax.specs.Reading.{Spells, FrontAllowed, fault_at, HasFault, too_long, unformed, unexpected, too_many, unended, ReadsAs}
+use Rattle.params_syntax.specs.Machine.States.{step, open_elements}
 use Rattle.params_syntax.proofs.Runs.{run, start, run-tree_tokens}
 use Rattle.params_syntax.proofs.Reached.{splits, run-few, run-begin, begin-run, run-tree, run-push, run-counts}
+use Rattle.params_syntax.proofs.Courses.{by_end, end_reading}
 use Rattle.params_syntax.proofs.Fronts.{same, first_further, second_further, compare_fronts}
 
 -- what one more turn of reading does: it ends, or goes on
@@ -21,23 +24,16 @@ data Turn : Type 0 where
   Done : Result (List Group) SyntaxFault → Turn
   More : State → List ℕ → Turn
 
-abbrev Found : Type 0
-Found = Token × List ℕ
-
-abbrev end_of : List ℕ → State → Result (List Group) SyntaxFault
-end_of text (Top gs) = Ok gs
-end_of text _ = Err (record { offset = length text; kind = End })
-
 abbrev taken : List ℕ → List ℕ → List ℕ → Option State → Turn
 taken text here after None = Done (Err (fault_at text here Unexpected))
-taken text here after (Some s) = cond (leb (open_elements s) 64) (More s after) (Done (Err (fault_at text here Length)))
+taken text here after (Some s) = cond (leb (open_elements s) most_elements) (More s after) (Done (Err (fault_at text here Length)))
 
 abbrev token_turn : List ℕ → List ℕ → State → Result Found SyntaxKind → Turn
 token_turn text here s (Err kind) = Done (Err (fault_at text here kind))
 token_turn text here s (Ok x) = taken text here x.1 (step s x.0)
 
 abbrev turn_at : List ℕ → State → List ℕ → Turn
-turn_at text s [] = Done (end_of text s)
+turn_at text s [] = Done (end_reading text s)
 turn_at text s (b ∷ bs) = token_turn text (b ∷ bs) s (token_at b bs)
 
 abbrev turn : List ℕ → State → List ℕ → Turn
@@ -50,7 +46,7 @@ record Ended (text : List ℕ) (answer : Result (List Group) SyntaxFault) : Type
   state : State
   tokens : FrontTokens text ts rest
   reached : run ts start ≡ Some state
-  few : (front back : List Token) → front ++ back ≡ ts → last_elements front ≤ 64
+  few : (front back : List Token) → front ++ back ≡ ts → last_elements front ≤ most_elements
   done : turn text state rest ≡ Done answer
 
 -- ---- no two answers
@@ -62,12 +58,12 @@ no_further text a b e f t more after longer token =
     let parts : (f.ts ++ t ∷ []) ++ more ≡ e.ts = append_assoc f.ts (t ∷ []) more ∙ sym longer in
     splits (f.ts ++ t ∷ []) more e.ts e.state parts e.reached (λ next there on.
     let is : step f.state t ≡ Some next = sym (run-push f.ts t f.state f.reached) ∙ there in
-    let few : open_elements next ≤ 64 = (let P : ℕ → Type 0 = λ n. n ≤ 64 in subst P (run-counts (f.ts ++ t ∷ []) next there) (e.few (f.ts ++ t ∷ []) more parts)) in
+    let few : open_elements next ≤ most_elements = (let P : ℕ → Type 0 = λ n. n ≤ most_elements in subst P (run-counts (f.ts ++ t ∷ []) next there) (e.few (f.ts ++ t ∷ []) more parts)) in
     let goes : turn text f.state f.rest ≡ More next after =
     ap (turn_at text f.state) token.2
     ∙ ap (token_turn text (token.0 ∷ token.1) f.state) token.3
     ∙ ap (taken text (token.0 ∷ token.1) after) is
-    ∙ ap (λ t. cond t (More next after) (Done (Err (fault_at text (token.0 ∷ token.1) Length)))) (le-leb (open_elements next) 64 few) in
+    ∙ ap (λ t. cond t (More next after) (Done (Err (fault_at text (token.0 ∷ token.1) Length)))) (le-leb (open_elements next) most_elements few) in
     let stops : Done b ≡ More next after = sym f.done ∙ goes in
     absurd cc)
 
@@ -88,16 +84,10 @@ one_answer text a b e f =
 
 -- ---- each reading ends
 
-ended_end : (text : List ℕ) (s : State) → ((gs : List Group) → s ≡ Top gs → ⊥) → end_of text s ≡ Err (record { offset = length text; kind = End })
-ended_end text (Top gs) h = absurd (h gs refl)
-ended_end text (GroupNamed gs g) h = refl
-ended_end text (Inside f) h = refl
-ended_end text (Named f n) h = refl
-ended_end text (Assigned f n) h = refl
-ended_end text (Listed f n) h = refl
-ended_end text (Element f n atoms) h = refl
-ended_end text (Separated f n atoms) h = refl
-ended_end text (Valued f n v) h = refl
+ended_end : (text : List ℕ) (s : State) → ((gs : List Group) → s ≡ Top gs → ⊥) → end_reading text s ≡ Err (record { offset = length text; kind = End })
+ended_end text s none =
+    by_end Ok _ (λ r reading. ((gs : List Group) → r ≡ Top gs → ⊥) → reading ≡ Err (record { offset = length text; kind = End }))
+    (λ gs h. absurd (h gs refl)) (λ r open_ h. refl) s none
 
 spelled_ends : (text : List ℕ) (gs : List Group) → Spells text gs → Ended text (Ok gs)
 spelled_ends text gs h = record {
@@ -134,9 +124,9 @@ refused : (text here after : List ℕ) (o : Option State) → ((next : State) �
 refused text here after None h = refl
 refused text here after (Some s) h = absurd (h s refl)
 
-overfull : (text here after : List ℕ) (next : State) → 64 < open_elements next → taken text here after (Some next) ≡ Done (Err (fault_at text here Length))
+overfull : (text here after : List ℕ) (next : State) → most_elements < open_elements next → taken text here after (Some next) ≡ Done (Err (fault_at text here Length))
 overfull text here after next many =
-    elim (leb_tells (open_elements next) 64) [
+    elim (leb_tells (open_elements next) most_elements) [
       | inl t ↦ absurd (omega (arith, t.1, many))
       | inr f ↦ ap (λ t. cond t (More next after) (Done (Err (fault_at text here Length)))) f.0
     ]
@@ -155,7 +145,7 @@ fault_ends text fault short (too_many ts rest t after front token begins many e)
     front_ends text ts rest (Err fault) front
     (λ s there. begin-run (ts ++ t ∷ []) begins (λ next on.
     let is : step s t ≡ Some next = sym (run-push ts t s there) ∙ on in
-    let P : ℕ → Type 0 = λ n. 64 < n in
+    let P : ℕ → Type 0 = λ n. most_elements < n in
     turn-token text s rest t after token
     ∙ ap (taken text (after_gap rest) after) is
     ∙ overfull text (after_gap rest) after next (subst P (run-counts (ts ++ t ∷ []) next on) many)
@@ -171,7 +161,7 @@ reading_ends text (Ok gs) short h = spelled_ends text gs h
 reading_ends text (Err fault) short h = fault_ends text fault short h
 
 -- a text that is too long has that fault alone
-long_reading : (text : List ℕ) (a : Result (List Group) SyntaxFault) → longest < length text → ReadsAs text a → a ≡ Err (record { offset = 65536; kind = Long })
+long_reading : (text : List ℕ) (a : Result (List Group) SyntaxFault) → longest < length text → ReadsAs text a → a ≡ Err (record { offset = longest; kind = Long })
 long_reading text (Ok gs) long h = absurd (omega (arith, long, h.short))
 long_reading text (Err fault) long (too_long again e) = ap (λ (f : SyntaxFault). Err f) e
 long_reading text (Err fault) long (unformed ts rest b bs kind front here none e) = absurd (omega (arith, long, front.short))

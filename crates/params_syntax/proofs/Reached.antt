@@ -1,6 +1,7 @@
 -- Which lists of tokens lead to a state: those that begin a tree.
 use Rattle.std.proofs.Common.{◌≡◌, ℕ, ◌≤◌, List, [], ◌∷◌, ◌++◌, Option, Some, None, pos, refl, sym, ap, ◌∙◌, subst, append_assoc}
 use Rattle.std.proofs.lemmas.Option.{same_Some}
+use Rattle.params_syntax.specs.Limits.{most_elements}
 use Rattle.params_syntax.specs.declared.tree.Group.{Group}
 use Rattle.params_syntax.specs.declared.tree.Atom.TheVariants.{Number}
 use Rattle.params_syntax.specs.declared.tree.Value.{Value}
@@ -9,12 +10,13 @@ use Rattle.params_syntax.specs.declared.state.Frame.{Frame}
 use Rattle.params_syntax.specs.declared.state.Frame.TheVariants.{InGroup, InSub}
 use Rattle.params_syntax.specs.declared.state.State.{State}
 use Rattle.params_syntax.specs.declared.state.State.TheVariants.{Top, GroupNamed, Inside, Named, Assigned, Listed, Element, Separated, Valued}
-use Rattle.params_syntax.specs.Tokens.{Token, NumberToken}
+use Rattle.params_syntax.specs.declared.token.Token.{Token}
+use Rattle.params_syntax.specs.declared.token.Token.TheVariants as tokens
 use Rattle.params_syntax.specs.Grammar.{opens, closes, equals, ends, list_closes, tree_tokens, BeginTree, counted_on, last_elements}
-use Rattle.params_syntax.specs.States.{step, with_setting, open_elements}
+use Rattle.params_syntax.specs.Machine.States.{step, with_setting, open_elements}
 use Rattle.params_syntax.proofs.Runs.{run, run-append, run-None, start, run-tree_tokens}
 use Rattle.params_syntax.proofs.StepTokens.{state_tokens, HasElements, step-adds, step-counts}
-use Rattle.params_syntax.proofs.StepLimits.{Keeps, step-kept, open_elements-few}
+use Rattle.params_syntax.proofs.StepLimits.{KeepsLimits, step-kept, open_elements-few}
 
 -- what a run that arrives goes by first
 pub passes : {P : Type 0} (ts : List Token) (o : Option State) (s : State) → run ts o ≡ Some s → ((r : State) → o ≡ Some r → run ts (Some r) ≡ Some s → P) → P
@@ -47,8 +49,8 @@ pub run-counts : (ts : List Token) (s : State) → run ts start ≡ Some s → l
 run-counts ts s e = run-counts_from ts (Top []) s e
 
 -- a state on the way to one that keeps the limits keeps them
-run-kept : (ts : List Token) (r s : State) → run ts (Some r) ≡ Some s → Keeps s → Keeps r
-run-kept [] r s e h = subst Keeps (sym (same_Some r s e)) h
+run-kept : (ts : List Token) (r s : State) → run ts (Some r) ≡ Some s → KeepsLimits s → KeepsLimits r
+run-kept [] r s e h = subst KeepsLimits (sym (same_Some r s e)) h
 run-kept (t ∷ ts) r s e h = passes ts (step r t) s e (λ next is more. step-kept r t next is (run-kept ts next s more h))
 
 -- the run to a front of the tokens, and on from there
@@ -58,11 +60,11 @@ splits front back ts s parts e go =
     let both : run back (run front start) ≡ Some s = sym (run-append front back start) ∙ ap (λ (l : List Token). run l start) parts ∙ e in
     passes back (run front start) s both go
 
-pub run-few : (ts : List Token) (s : State) → run ts start ≡ Some s → Keeps s → (front back : List Token) → front ++ back ≡ ts → last_elements front ≤ 64
+pub run-few : (ts : List Token) (s : State) → run ts start ≡ Some s → KeepsLimits s → (front back : List Token) → front ++ back ≡ ts → last_elements front ≤ most_elements
 run-few ts s e h front back parts =
     splits front back ts s parts e (λ r there on.
     let same : last_elements front ≡ open_elements r = run-counts front r there in
-    let P : ℕ → Type 0 = λ n. n ≤ 64 in
+    let P : ℕ → Type 0 = λ n. n ≤ most_elements in
     subst P (sym same) (open_elements-few r (run-kept back r s on h)))
 
 -- ---- each state can be ended
@@ -85,7 +87,7 @@ valued_ends : (f : Frame) (n : List ℕ) (v : Value) → Ends (Valued f n v)
 valued_ends f n v = before (Valued f n v) ends _ refl (frame_ends (with_setting f (record { name = n; value = v })))
 
 assigned_ends : (f : Frame) (n : List ℕ) → Ends (Assigned f n)
-assigned_ends f n = before (Assigned f n) (NumberToken (pos 0)) _ refl (valued_ends f n (values.Atom (Number (pos 0))))
+assigned_ends f n = before (Assigned f n) (tokens.Atom (Number (pos 0))) _ refl (valued_ends f n (values.Atom (Number (pos 0))))
 
 state_ends : (s : State) → Ends s
 state_ends (Top gs) = record { more = []; groups = gs; leads = refl }
@@ -95,7 +97,7 @@ state_ends (Named f n) = before (Named f n) equals _ refl (assigned_ends f n)
 state_ends (Assigned f n) = assigned_ends f n
 state_ends (Listed f n) = before (Listed f n) list_closes _ refl (valued_ends f n (values.List []))
 state_ends (Element f n atoms) = before (Element f n atoms) list_closes _ refl (valued_ends f n (values.List atoms))
-state_ends (Separated f n atoms) = before (Separated f n atoms) (NumberToken (pos 0)) (Element f n (atoms ++ Number (pos 0) ∷ [])) refl (before (Element f n (atoms ++ Number (pos 0) ∷ [])) list_closes _ refl (valued_ends f n (values.List (atoms ++ Number (pos 0) ∷ []))))
+state_ends (Separated f n atoms) = before (Separated f n atoms) (tokens.Atom (Number (pos 0))) (Element f n (atoms ++ Number (pos 0) ∷ [])) refl (before (Element f n (atoms ++ Number (pos 0) ∷ [])) list_closes _ refl (valued_ends f n (values.List (atoms ++ Number (pos 0) ∷ []))))
 state_ends (Valued f n v) = valued_ends f n v
 
 -- ---- tokens begin a tree exactly where they lead to a state

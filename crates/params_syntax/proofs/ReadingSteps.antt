@@ -1,5 +1,6 @@
 -- One turn of the reader's loop, which stands at the next token: what it finds, and where it goes on.
 use Rattle.std.proofs.Common.{◌≡◌, ℕ, ◌-◌, ◌<◌, ◌≤◌, List, [], ◌∷◌, length, get_or, take, drop, take_all, Option, Some, None, Ok, Err, Result, refl, sym, ap, ◌∙◌, subst, arith}
+use Rattle.params_syntax.specs.Limits.{most_elements, longest}
 use Rattle.params_syntax.specs.declared.fault.SyntaxKind.{SyntaxKind}
 use Rattle.params_syntax.specs.declared.fault.SyntaxKind.TheVariants as kinds
 use Rattle.params_syntax.specs.declared.fault.ReadError.{ReadError}
@@ -7,15 +8,16 @@ use Rattle.params_syntax.specs.declared.refusal.Refusal.{Refusal}
 use Rattle.params_syntax.specs.declared.refusal.Refusal.TheVariants.{Unexpected, Length, Memory}
 use Rattle.params_syntax.specs.declared.tree.Group.{Group}
 use Rattle.params_syntax.specs.declared.state.State.{State}
-use Rattle.params_syntax.specs.declared.state.State.TheVariants.{Top, GroupNamed, Inside, Named, Assigned, Listed, Element, Separated, Valued}
-use Rattle.params_syntax.specs.Tokens.{Token, after_gap, token_at, NextToken, FrontTokens}
-use Rattle.params_syntax.specs.Reading.{longest, Spells, fault_at, HasFault, IsUnread}
+use Rattle.params_syntax.specs.declared.state.State.TheVariants.{Top}
+use Rattle.params_syntax.specs.declared.token.Token.{Token}
+use Rattle.params_syntax.specs.Tokens.{after_gap, token_at, NextToken, FrontTokens}
+use Rattle.params_syntax.specs.Reading.{Spells, fault_at, HasFault, IsUnread}
 use Rattle.std.specs.Prelude.{IfOk, IfErr}
-use Rattle.params_syntax.specs.States.{step, open_elements}
-use Rattle.params_syntax.specs.Steps.{IsFull, Steps, fault_of, refusal_of, end_of}
+use Rattle.params_syntax.specs.Machine.States.{step, open_elements}
+use Rattle.params_syntax.specs.Machine.Steps.{IsFull, StepsTo, fault_of, refusal_of, end_of}
 use Rattle.params_syntax.proofs.Formed.{token_at-good, after_gap-shorter}
 use Rattle.params_syntax.proofs.Fronts.{NextToken-shorter}
-use Rattle.params_syntax.proofs.Courses.{Course, course_begins, course_goes_on, course_spells, course_unformed, course_unexpected, course_too_many, course_unended}
+use Rattle.params_syntax.proofs.Courses.{Course, course_begins, course_goes_on, course_spells, course_unformed, course_unexpected, course_too_many, course_unended, by_end}
 
 -- The text was read up to the next token, or to the end.
 abbrev pub At : List ℕ → State → List ℕ → Type 0
@@ -40,7 +42,7 @@ at_unformed text s here b bs kind a front read =
     subst P (sym front) (course_unformed text s a.0 b bs kind a.2 (a.1 ∙ front) read)
 
 pub at_refused : (text : List ℕ) (s : State) (here : List ℕ) (b : ℕ) (bs : List ℕ) (t : Token) (after : List ℕ) (refusal : Refusal) → At text s here → here ≡ b ∷ bs
-    → token_at b bs ≡ Ok (t, after) → Steps (Err refusal) (step s t) → IsUnread text (refusal_of (length text - length here) refusal)
+    → token_at b bs ≡ Ok (t, after) → StepsTo (Err refusal) (step s t) → IsUnread text (refusal_of (length text - length here) refusal)
 at_refused text s here b bs t after Memory a front read refused = tt
 at_refused text s here b bs t after Unexpected a front read refused =
     let P : List ℕ → Type 0 = λ l. HasFault text (fault_at text l kinds.Unexpected) in
@@ -49,12 +51,12 @@ at_refused text s here b bs t after Length a front read full =
     let P : List ℕ → Type 0 = λ l. HasFault text (fault_at text l kinds.Length) in
     by (step s t) refl full (λ next is many. subst P a.1 (course_too_many text s a.0 t after next a.2 (token_there a.0 b bs here t after a.1 front read) is many))
   where
-    by : {Q : Type 0} (o : Option State) → step s t ≡ o → IsFull o → ((next : State) → step s t ≡ Some next → 64 < open_elements next → Q) → Q
+    by : {Q : Type 0} (o : Option State) → step s t ≡ o → IsFull o → ((next : State) → step s t ≡ Some next → most_elements < open_elements next → Q) → Q
     by None e full go = absurd full
     by (Some next) e full go = go next e full
 
 pub at_more : (text : List ℕ) (s : State) (here : List ℕ) (b : ℕ) (bs : List ℕ) (t : Token) (after : List ℕ) (next : State) → At text s here → here ≡ b ∷ bs
-    → token_at b bs ≡ Ok (t, after) → Steps (Ok next) (step s t) → (left : List ℕ) → left ≡ after_gap after → At text next left
+    → token_at b bs ≡ Ok (t, after) → StepsTo (Ok next) (step s t) → (left : List ℕ) → left ≡ after_gap after → At text next left
 at_more text s here b bs t after next a front read stepped left is =
     (after, sym is, course_goes_on text s a.0 t after next a.2 (token_there a.0 b bs here t after a.1 front read) stepped.0 stepped.1)
 
@@ -75,19 +77,11 @@ pub record EndsWell (text : List ℕ) (answer : Answer) : Type 0 where
   pub tree : IfOk answer (λ gs. Spells text gs)
   pub fault : IfErr answer (λ e. IsUnread text e)
 
-ends_open : (text : List ℕ) → HasFault text (record { offset = length text; kind = kinds.End }) → EndsWell text (Err (fault_of (length text) kinds.End))
-ends_open text h = record { tree = tt; fault = h }
-
 ends_in : (text : List ℕ) (s : State) (rest : List ℕ) → Course text s rest → after_gap rest ≡ [] → EndsWell text (end_of (length text) s)
-ends_in text (Top gs) rest c e = record { tree = course_spells text gs rest c e; fault = tt }
-ends_in text (GroupNamed gs g) rest c e = ends_open text (course_unended text (GroupNamed gs g) rest c tt e)
-ends_in text (Inside f) rest c e = ends_open text (course_unended text (Inside f) rest c tt e)
-ends_in text (Named f n) rest c e = ends_open text (course_unended text (Named f n) rest c tt e)
-ends_in text (Assigned f n) rest c e = ends_open text (course_unended text (Assigned f n) rest c tt e)
-ends_in text (Listed f n) rest c e = ends_open text (course_unended text (Listed f n) rest c tt e)
-ends_in text (Element f n atoms) rest c e = ends_open text (course_unended text (Element f n atoms) rest c tt e)
-ends_in text (Separated f n atoms) rest c e = ends_open text (course_unended text (Separated f n atoms) rest c tt e)
-ends_in text (Valued f n v) rest c e = ends_open text (course_unended text (Valued f n v) rest c tt e)
+ends_in text s rest c e =
+    by_end Ok _ (λ r answer. Course text r rest → EndsWell text answer)
+    (λ gs c. record { tree = course_spells text gs rest c e; fault = tt })
+    (λ r open_ c. record { tree = tt; fault = course_unended text r rest c open_ e }) s c
 
 is_empty : (l : List ℕ) → length l < 1 → l ≡ []
 is_empty [] h = refl

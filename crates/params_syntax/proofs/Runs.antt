@@ -3,7 +3,6 @@ use Rattle.std.proofs.Common.{◌≡◌, ℕ, List, [], ◌∷◌, ◌++◌, Opt
 use Rattle.std.proofs.lemmas.List.{append-nil}
 use Rattle.std.specs.List.{flat_map}
 use Rattle.params_syntax.specs.declared.tree.Atom.{Atom}
-use Rattle.params_syntax.specs.declared.tree.Atom.TheVariants.{Number, Word}
 use Rattle.params_syntax.specs.declared.tree.Value.{Value}
 use Rattle.params_syntax.specs.declared.tree.Value.TheVariants as values
 use Rattle.params_syntax.specs.declared.tree.Setting.{Setting}
@@ -14,9 +13,10 @@ use Rattle.params_syntax.specs.declared.state.Frame.{Frame}
 use Rattle.params_syntax.specs.declared.state.Frame.TheVariants.{InGroup, InSub}
 use Rattle.params_syntax.specs.declared.state.State.{State}
 use Rattle.params_syntax.specs.declared.state.State.TheVariants.{Top, Inside, Listed, Element, Separated}
-use Rattle.params_syntax.specs.Tokens.{Token, NameToken}
+use Rattle.params_syntax.specs.declared.token.Token.{Token}
+use Rattle.params_syntax.specs.declared.token.Token.TheVariants as tokens
 use Rattle.params_syntax.specs.Grammar.{closes, equals, ends, list_closes, elements, value_tokens, setting_tokens, item_tokens, group_tokens, tree_tokens}
-use Rattle.params_syntax.specs.States.{step, with_setting}
+use Rattle.params_syntax.specs.Machine.States.{step, with_setting}
 
 abbrev pub step_on : Option State → Token → Option State
 step_on None t = None
@@ -42,28 +42,21 @@ start = Some (Top [])
 
 run-elements : (f : Frame) (n : List ℕ) (front : List Atom) (a : Atom) (atoms : List Atom) (rest : List Token)
     → run (elements (a ∷ atoms) ++ rest) (Some (Separated f n front)) ≡ run rest (Some (Element f n (front ++ a ∷ atoms)))
-run-elements f n front (Number z) [] rest = refl
-run-elements f n front (Word w) [] rest = refl
-run-elements f n front (Number z) (b ∷ atoms) rest =
-    run-elements f n (front ++ Number z ∷ []) b atoms rest
-    ∙ ap (λ (l : List Atom). run rest (Some (Element f n l))) (append_assoc front (Number z ∷ []) (b ∷ atoms))
-run-elements f n front (Word w) (b ∷ atoms) rest =
-    run-elements f n (front ++ Word w ∷ []) b atoms rest
-    ∙ ap (λ (l : List Atom). run rest (Some (Element f n l))) (append_assoc front (Word w ∷ []) (b ∷ atoms))
+run-elements f n front a [] rest = refl
+run-elements f n front a (b ∷ atoms) rest =
+    run-elements f n (front ++ a ∷ []) b atoms rest
+    ∙ ap (λ (l : List Atom). run rest (Some (Element f n l))) (append_assoc front (a ∷ []) (b ∷ atoms))
 
 run-listed : (f : Frame) (n : List ℕ) (a : Atom) (atoms : List Atom) (rest : List Token)
     → run (elements (a ∷ atoms) ++ rest) (Some (Listed f n)) ≡ run rest (Some (Element f n (a ∷ atoms)))
-run-listed f n (Number z) [] rest = refl
-run-listed f n (Word w) [] rest = refl
-run-listed f n (Number z) (b ∷ atoms) rest = run-elements f n (Number z ∷ []) b atoms rest
-run-listed f n (Word w) (b ∷ atoms) rest = run-elements f n (Word w ∷ []) b atoms rest
+run-listed f n a [] rest = refl
+run-listed f n a (b ∷ atoms) rest = run-elements f n (a ∷ []) b atoms rest
 
 -- ---- settings and items
 
 run-value : (f : Frame) (n : List ℕ) (v : Value) (rest : List Token)
-    → run ((NameToken n ∷ equals ∷ value_tokens v ++ ends ∷ []) ++ rest) (Some (Inside f)) ≡ run rest (Some (Inside (with_setting f (record { name = n; value = v }))))
-run-value f n (values.Atom (Number z)) rest = refl
-run-value f n (values.Atom (Word w)) rest = refl
+    → run ((tokens.Name n ∷ equals ∷ value_tokens v ++ ends ∷ []) ++ rest) (Some (Inside f)) ≡ run rest (Some (Inside (with_setting f (record { name = n; value = v }))))
+run-value f n (values.Atom a) rest = refl
 run-value f n (values.List []) rest = refl
 run-value f n (values.List (a ∷ atoms)) rest =
     let E = elements (a ∷ atoms) in

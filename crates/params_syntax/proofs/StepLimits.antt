@@ -1,8 +1,6 @@
 -- The limits of what was read: a step keeps them where its token is formed and its list isn't too long, and a state
 -- had them where the next one has.
 use Rattle.std.proofs.Common.{◌≡◌, ℕ, ◌≤◌, List, [], ◌∷◌, ◌++◌, length, Some, length-append, arith}
-use Rattle.params_syntax.specs.declared.tree.Atom.{Atom}
-use Rattle.params_syntax.specs.declared.tree.Atom.TheVariants.{Number, Word}
 use Rattle.params_syntax.specs.declared.tree.Value.{Value}
 use Rattle.params_syntax.specs.declared.tree.Value.TheVariants as values
 use Rattle.params_syntax.specs.declared.tree.Setting.{Setting}
@@ -13,18 +11,18 @@ use Rattle.params_syntax.specs.declared.state.Frame.{Frame}
 use Rattle.params_syntax.specs.declared.state.Frame.TheVariants.{InGroup, InSub}
 use Rattle.params_syntax.specs.declared.state.State.{State}
 use Rattle.params_syntax.specs.declared.state.State.TheVariants.{Top, GroupNamed, Inside, Named, Assigned, Listed, Element, Separated, Valued}
-use Rattle.params_syntax.specs.Tokens.{Token, Sign, NameToken, NumberToken, WordToken}
-use Rattle.params_syntax.specs.Trees.{Each, IsName, IsWord, IsNumber, IsAtom, IsValue, IsSetting, IsItem, IsGroup, IsTree}
-use Rattle.params_syntax.specs.Grammar.{atom_token}
-use Rattle.params_syntax.specs.States.{step, closed, with_setting, open_elements}
+use Rattle.params_syntax.specs.declared.token.Token.{Token}
+use Rattle.params_syntax.specs.declared.token.Token.TheVariants as tokens
+use Rattle.params_syntax.specs.Limits.{most_elements}
+use Rattle.params_syntax.specs.Trees.{Each, IsName, IsAtom, IsValue, IsSetting, IsItem, IsGroup, IsTree}
+use Rattle.params_syntax.specs.Machine.States.{step, closed, with_setting, open_elements}
 use Rattle.params_syntax.proofs.Steps.{EachStep, by_steps}
 
 -- the form of a token's value
 abbrev pub IsFormed : Token → Type 0
-IsFormed (Sign b) = Unit {0}
-IsFormed (NameToken n) = IsName n
-IsFormed (NumberToken z) = IsNumber z
-IsFormed (WordToken w) = IsWord w
+IsFormed (tokens.Sign sign) = Unit {0}
+IsFormed (tokens.Name n) = IsName n
+IsFormed (tokens.Atom a) = IsAtom a
 
 pub record FrameKeeps (gs : List Group) (g : List ℕ) (items : List Item) : Type 0 where
   pub groups : IsTree gs
@@ -45,18 +43,18 @@ abbrev pub KeepsNamed : Frame → List ℕ → Type 0
 KeepsNamed f n = KeepsFrame f × IsName n
 
 -- What was read keeps the limits of a tree.
-abbrev pub Keeps : State → Type 0
-Keeps (Top gs) = IsTree gs
-Keeps (GroupNamed gs g) = IsTree gs × IsName g
-Keeps (Inside f) = KeepsFrame f
-Keeps (Named f n) = KeepsNamed f n
-Keeps (Assigned f n) = KeepsNamed f n
-Keeps (Listed f n) = KeepsNamed f n
-Keeps (Element f n atoms) = KeepsNamed f n × Each IsAtom atoms × (length atoms ≤ 64)
-Keeps (Separated f n atoms) = KeepsNamed f n × Each IsAtom atoms × (length atoms ≤ 64)
-Keeps (Valued f n v) = KeepsNamed f n × IsValue v
+abbrev pub KeepsLimits : State → Type 0
+KeepsLimits (Top gs) = IsTree gs
+KeepsLimits (GroupNamed gs g) = IsTree gs × IsName g
+KeepsLimits (Inside f) = KeepsFrame f
+KeepsLimits (Named f n) = KeepsNamed f n
+KeepsLimits (Assigned f n) = KeepsNamed f n
+KeepsLimits (Listed f n) = KeepsNamed f n
+KeepsLimits (Element f n atoms) = KeepsNamed f n × Each IsAtom atoms × (length atoms ≤ most_elements)
+KeepsLimits (Separated f n atoms) = KeepsNamed f n × Each IsAtom atoms × (length atoms ≤ most_elements)
+KeepsLimits (Valued f n v) = KeepsNamed f n × IsValue v
 
-pub open_elements-few : (s : State) → Keeps s → open_elements s ≤ 64
+pub open_elements-few : (s : State) → KeepsLimits s → open_elements s ≤ most_elements
 open_elements-few (Element f n atoms) h = h.2
 open_elements-few (Separated f n atoms) h = h.2
 open_elements-few (Valued f n (values.Atom a)) h = omega arith
@@ -85,13 +83,9 @@ Each-last P (y ∷ xs) x h = Each-last P xs x h.1
 -- ---- forward
 
 abbrev Forward : State → Token → State → Type 0
-Forward s t next = Keeps s → IsFormed t → open_elements next ≤ 64 → Keeps next
+Forward s t next = KeepsLimits s → IsFormed t → open_elements next ≤ most_elements → KeepsLimits next
 
-IsAtom-formed : (a : Atom) → IsFormed (atom_token a) → IsAtom a
-IsAtom-formed (Number z) h = h
-IsAtom-formed (Word w) h = h
-
-closed-keeps : (f : Frame) → KeepsFrame f → Keeps (closed f)
+closed-keeps : (f : Frame) → KeepsFrame f → KeepsLimits (closed f)
 closed-keeps (InGroup gs g items) h = Each-push IsGroup gs (record { name = g; items = items }) h.groups (h.name, h.items_keep)
 closed-keeps (InSub gs g items sub sets) h = record {
   groups = h.outer.groups;
@@ -115,25 +109,25 @@ each_forward = record {
   sub_opens = λ gs g items n h t few. record { outer = h.0; sub_name = h.1; sets_keep = tt };
   closes = λ f h t few. closed-keeps f h;
   equals = λ f n h t few. h;
-  atom_value = λ f n a h t few. (h, IsAtom-formed a t);
+  atom_value = λ f n a h t few. (h, t);
   list_opens = λ f n h t few. h;
-  first_element = λ f n a h t few. (h, (IsAtom-formed a t, tt), few);
+  first_element = λ f n a h t few. (h, (t, tt), few);
   empty_closes = λ f n h t few. (h, (tt, omega arith));
   comma = λ f n atoms h t few. h;
-  element = λ f n atoms a h t few. (h.0, Each-push IsAtom atoms a h.1 (IsAtom-formed a t), few);
+  element = λ f n atoms a h t few. (h.0, Each-push IsAtom atoms a h.1 t, few);
   list_closes = λ f n atoms h t few. (h.0, (h.1, h.2));
   ends = λ f n v h t few. with_setting-keeps f (record { name = n; value = v }) h.0.0 (h.0.1, h.1);
 }
 
-pub step-keeps : (s : State) (t : Token) (next : State) → step s t ≡ Some next → Keeps s → IsFormed t → open_elements next ≤ 64 → Keeps next
+pub step-keeps : (s : State) (t : Token) (next : State) → step s t ≡ Some next → KeepsLimits s → IsFormed t → open_elements next ≤ most_elements → KeepsLimits next
 step-keeps = by_steps Forward each_forward
 
 -- ---- backward
 
 abbrev Backward : State → Token → State → Type 0
-Backward s t next = Keeps next → Keeps s
+Backward s t next = KeepsLimits next → KeepsLimits s
 
-closed-kept : (f : Frame) → Keeps (closed f) → KeepsFrame f
+closed-kept : (f : Frame) → KeepsLimits (closed f) → KeepsFrame f
 closed-kept (InGroup gs g items) h =
     let last = Each-last IsGroup gs (record { name = g; items = items }) h in
     record { groups = Each-front IsGroup gs (record { name = g; items = items }) h; name = last.0; items_keep = last.1 }
@@ -154,7 +148,7 @@ with_setting-kept (InGroup gs g items) s h =
 with_setting-kept (InSub gs g items sub sets) s h =
     (record { outer = h.outer; sub_name = h.sub_name; sets_keep = Each-front IsSetting sets s h.sets_keep }, Each-last IsSetting sets s h.sets_keep)
 
-ends-kept : (f : Frame) (n : List ℕ) (v : Value) → KeepsFrame (with_setting f (record { name = n; value = v })) → Keeps (Valued f n v)
+ends-kept : (f : Frame) (n : List ℕ) (v : Value) → KeepsFrame (with_setting f (record { name = n; value = v })) → KeepsLimits (Valued f n v)
 ends-kept f n v h = let k = with_setting-kept f (record { name = n; value = v }) h in ((k.0, k.1.0), k.1.1)
 
 each_backward : EachStep Backward
@@ -175,5 +169,5 @@ each_backward = record {
   ends = ends-kept;
 }
 
-pub step-kept : (s : State) (t : Token) (next : State) → step s t ≡ Some next → Keeps next → Keeps s
+pub step-kept : (s : State) (t : Token) (next : State) → step s t ≡ Some next → KeepsLimits next → KeepsLimits s
 step-kept = by_steps Backward each_backward

@@ -1,9 +1,7 @@
 -- The steps of reading, one by one: what holds of each of them holds of every step.
-use Rattle.std.proofs.Common.{◌≡◌, ℕ, List, [], ◌∷◌, ◌++◌, Option, Some, cond, eqb, sym, subst, inl, inr}
-use Rattle.std.proofs.lemmas.Bool.Decides.{eqb_tells}
+use Rattle.std.proofs.Common.{◌≡◌, ℕ, List, [], ◌∷◌, ◌++◌, Some, subst}
 use Rattle.std.proofs.lemmas.Option.{same_Some}
 use Rattle.params_syntax.specs.declared.tree.Atom.{Atom}
-use Rattle.params_syntax.specs.declared.tree.Atom.TheVariants.{Number, Word}
 use Rattle.params_syntax.specs.declared.tree.Value.{Value}
 use Rattle.params_syntax.specs.declared.tree.Value.TheVariants as values
 use Rattle.params_syntax.specs.declared.tree.Item.{Item}
@@ -12,24 +10,27 @@ use Rattle.params_syntax.specs.declared.state.Frame.{Frame}
 use Rattle.params_syntax.specs.declared.state.Frame.TheVariants.{InGroup, InSub}
 use Rattle.params_syntax.specs.declared.state.State.{State}
 use Rattle.params_syntax.specs.declared.state.State.TheVariants.{Top, GroupNamed, Inside, Named, Assigned, Listed, Element, Separated, Valued}
-use Rattle.params_syntax.specs.Tokens.{Token, Sign, NameToken, NumberToken, WordToken}
-use Rattle.params_syntax.specs.Grammar.{opens, closes, equals, ends, list_opens, list_closes, comma, atom_token}
-use Rattle.params_syntax.specs.States.{step, on_name, on_atom, in_sub, on_opens, closed, on_closes, on_equals, with_setting, on_ends, on_list_opens, on_list_closes, on_comma, on_sign}
+use Rattle.params_syntax.specs.declared.token.Sign.{Sign}
+use Rattle.params_syntax.specs.declared.token.Sign.TheVariants.{Opens, Closes, Equals, Ends, ListOpens, ListCloses, Comma}
+use Rattle.params_syntax.specs.declared.token.Token.{Token}
+use Rattle.params_syntax.specs.declared.token.Token.TheVariants as tokens
+use Rattle.params_syntax.specs.Grammar.{opens, closes, equals, ends, list_opens, list_closes, comma}
+use Rattle.params_syntax.specs.Machine.States.{step, on_name, on_atom, in_sub, on_opens, closed, on_closes, on_equals, with_setting, on_ends, on_list_opens, on_list_closes, on_comma, on_sign}
 
 -- what holds of each kind of step
 pub record EachStep (P : State → Token → State → Type 0) : Type 0 where
-  pub group_name : (gs : List Group) (n : List ℕ) → P (Top gs) (NameToken n) (GroupNamed gs n)
+  pub group_name : (gs : List Group) (n : List ℕ) → P (Top gs) (tokens.Name n) (GroupNamed gs n)
   pub group_opens : (gs : List Group) (g : List ℕ) → P (GroupNamed gs g) opens (Inside (InGroup gs g []))
-  pub item_name : (f : Frame) (n : List ℕ) → P (Inside f) (NameToken n) (Named f n)
+  pub item_name : (f : Frame) (n : List ℕ) → P (Inside f) (tokens.Name n) (Named f n)
   pub sub_opens : (gs : List Group) (g : List ℕ) (items : List Item) (n : List ℕ) → P (Named (InGroup gs g items) n) opens (Inside (InSub gs g items n []))
   pub closes : (f : Frame) → P (Inside f) closes (closed f)
   pub equals : (f : Frame) (n : List ℕ) → P (Named f n) equals (Assigned f n)
-  pub atom_value : (f : Frame) (n : List ℕ) (a : Atom) → P (Assigned f n) (atom_token a) (Valued f n (values.Atom a))
+  pub atom_value : (f : Frame) (n : List ℕ) (a : Atom) → P (Assigned f n) (tokens.Atom a) (Valued f n (values.Atom a))
   pub list_opens : (f : Frame) (n : List ℕ) → P (Assigned f n) list_opens (Listed f n)
-  pub first_element : (f : Frame) (n : List ℕ) (a : Atom) → P (Listed f n) (atom_token a) (Element f n (a ∷ []))
+  pub first_element : (f : Frame) (n : List ℕ) (a : Atom) → P (Listed f n) (tokens.Atom a) (Element f n (a ∷ []))
   pub empty_closes : (f : Frame) (n : List ℕ) → P (Listed f n) list_closes (Valued f n (values.List []))
   pub comma : (f : Frame) (n : List ℕ) (atoms : List Atom) → P (Element f n atoms) comma (Separated f n atoms)
-  pub element : (f : Frame) (n : List ℕ) (atoms : List Atom) (a : Atom) → P (Separated f n atoms) (atom_token a) (Element f n (atoms ++ a ∷ []))
+  pub element : (f : Frame) (n : List ℕ) (atoms : List Atom) (a : Atom) → P (Separated f n atoms) (tokens.Atom a) (Element f n (atoms ++ a ∷ []))
   pub list_closes : (f : Frame) (n : List ℕ) (atoms : List Atom) → P (Element f n atoms) list_closes (Valued f n (values.List atoms))
   pub ends : (f : Frame) (n : List ℕ) (v : Value) → P (Valued f n v) ends (Inside (with_setting f (record { name = n; value = v })))
 
@@ -37,15 +38,15 @@ pub record EachStep (P : State → Token → State → Type 0) : Type 0 where
 at_some : (P : State → Type 0) (s next : State) → Some s ≡ Some next → P s → P next
 at_some P s next e p = subst P (same_Some s next e) p
 
-by_name : (P : State → Token → State → Type 0) → EachStep P → (s : State) (n : List ℕ) (next : State) → on_name s n ≡ Some next → P s (NameToken n) next
-by_name P each (Top gs) n next e = at_some (P (Top gs) (NameToken n)) _ next e (each.group_name gs n)
-by_name P each (Inside f) n next e = at_some (P (Inside f) (NameToken n)) _ next e (each.item_name f n)
+by_name : (P : State → Token → State → Type 0) → EachStep P → (s : State) (n : List ℕ) (next : State) → on_name s n ≡ Some next → P s (tokens.Name n) next
+by_name P each (Top gs) n next e = at_some (P (Top gs) (tokens.Name n)) _ next e (each.group_name gs n)
+by_name P each (Inside f) n next e = at_some (P (Inside f) (tokens.Name n)) _ next e (each.item_name f n)
 by_name P each _ n next e = absurd cc
 
-by_atom : (P : State → Token → State → Type 0) → EachStep P → (s : State) (a : Atom) (next : State) → on_atom s a ≡ Some next → P s (atom_token a) next
-by_atom P each (Assigned f n) a next e = at_some (P (Assigned f n) (atom_token a)) _ next e (each.atom_value f n a)
-by_atom P each (Listed f n) a next e = at_some (P (Listed f n) (atom_token a)) _ next e (each.first_element f n a)
-by_atom P each (Separated f n atoms) a next e = at_some (P (Separated f n atoms) (atom_token a)) _ next e (each.element f n atoms a)
+by_atom : (P : State → Token → State → Type 0) → EachStep P → (s : State) (a : Atom) (next : State) → on_atom s a ≡ Some next → P s (tokens.Atom a) next
+by_atom P each (Assigned f n) a next e = at_some (P (Assigned f n) (tokens.Atom a)) _ next e (each.atom_value f n a)
+by_atom P each (Listed f n) a next e = at_some (P (Listed f n) (tokens.Atom a)) _ next e (each.first_element f n a)
+by_atom P each (Separated f n atoms) a next e = at_some (P (Separated f n atoms) (tokens.Atom a)) _ next e (each.element f n atoms a)
 by_atom P each _ a next e = absurd cc
 
 by_sub : (P : State → Token → State → Type 0) → EachStep P → (f : Frame) (n : List ℕ) (next : State) → in_sub f n ≡ Some next → P (Named f n) opens next
@@ -82,28 +83,16 @@ by_comma : (P : State → Token → State → Type 0) → EachStep P → (s next
 by_comma P each (Element f n atoms) next e = at_some (P (Element f n atoms) comma) _ next e (each.comma f n atoms)
 by_comma P each _ next e = absurd cc
 
--- a test of the sign's byte
-by_byte : (P : Token → Type 0) (b k : ℕ) (at other : Option State) (next : State) → cond (eqb b k) at other ≡ Some next
-    → (at ≡ Some next → P (Sign k)) → (other ≡ Some next → P (Sign b)) → P (Sign b)
-by_byte P b k at other next e here else_ =
-    elim (eqb_tells b k) [
-      | inl t ↦ let Q : ℕ → Type 0 = λ x. P (Sign x) in subst Q (sym t.1) (here (rw t.0 at e))
-      | inr f ↦ else_ (rw f.0 at e)
-    ]
-
-by_sign : (P : State → Token → State → Type 0) → EachStep P → (s : State) (b : ℕ) (next : State) → on_sign s b ≡ Some next → P s (Sign b) next
-by_sign P each s b next e =
-    let Q : Token → Type 0 = λ t. P s t next in
-    by_byte Q b 123 _ _ next e (by_opens P each s next) (λ e.
-    by_byte Q b 125 _ _ next e (by_closes P each s next) (λ e.
-    by_byte Q b 61 _ _ next e (by_equals P each s next) (λ e.
-    by_byte Q b 59 _ _ next e (by_ends P each s next) (λ e.
-    by_byte Q b 91 _ _ next e (by_list_opens P each s next) (λ e.
-    by_byte Q b 93 _ _ next e (by_list_closes P each s next) (λ e.
-    by_byte Q b 44 _ _ next e (by_comma P each s next) (λ e. absurd cc)))))))
+by_sign : (P : State → Token → State → Type 0) → EachStep P → (s : State) (sign : Sign) (next : State) → on_sign s sign ≡ Some next → P s (tokens.Sign sign) next
+by_sign P each s Opens next e = by_opens P each s next e
+by_sign P each s Closes next e = by_closes P each s next e
+by_sign P each s Equals next e = by_equals P each s next e
+by_sign P each s Ends next e = by_ends P each s next e
+by_sign P each s ListOpens next e = by_list_opens P each s next e
+by_sign P each s ListCloses next e = by_list_closes P each s next e
+by_sign P each s Comma next e = by_comma P each s next e
 
 pub by_steps : (P : State → Token → State → Type 0) → EachStep P → (s : State) (t : Token) (next : State) → step s t ≡ Some next → P s t next
-by_steps P each s (Sign b) next e = by_sign P each s b next e
-by_steps P each s (NameToken n) next e = by_name P each s n next e
-by_steps P each s (NumberToken z) next e = by_atom P each s (Number z) next e
-by_steps P each s (WordToken w) next e = by_atom P each s (Word w) next e
+by_steps P each s (tokens.Sign sign) next e = by_sign P each s sign next e
+by_steps P each s (tokens.Name n) next e = by_name P each s n next e
+by_steps P each s (tokens.Atom a) next e = by_atom P each s a next e

@@ -7,9 +7,10 @@ use Rattle.std.proofs.lemmas.Bool.{or_left, or_right}
 use Rattle.std.proofs.lemmas.Fmt.{decimal_nonempty}
 use Rattle.params_syntax.specs.declared.tree.Atom.{Atom}
 use Rattle.params_syntax.specs.declared.tree.Atom.TheVariants.{Number, Word}
-use Rattle.params_syntax.specs.Tokens.{Token, NameToken, NumberToken, WordToken, is_digit, begins_name, is_name_byte, negative, after_gap, digits_at, token_at, FrontTokens}
+use Rattle.params_syntax.specs.declared.token.Token.{Token}
+use Rattle.params_syntax.specs.declared.token.Token.TheVariants as tokens
+use Rattle.params_syntax.specs.Tokens.{is_digit, begins_name, is_name_byte, negative, after_gap, digits_at, token_at, FrontTokens}
 use Rattle.params_syntax.specs.Trees.{Each, IsName, IsWord, IsNumber, IsAtom}
-use Rattle.params_syntax.specs.Grammar.{atom_token}
 use Rattle.params_syntax.specs.Canonical.{atom_text}
 use Rattle.params_syntax.proofs.Bytes.{is_name_byte-after_gap}
 use Rattle.params_syntax.proofs.TokenTexts.{name_at-again, word_at-again, digits_at-again, token_at-name, token_at-digit, AllDecimal, decimal-all}
@@ -37,36 +38,36 @@ HasTokens-next text t b bs rest ts gap formed has =
     record { rest = has.rest; tokens = (rest, (b, bs, gap, formed), has.tokens); ended = has.ended }
 
 pub HasTokens-name : (name : List ℕ) (y : ℕ) (text : List ℕ) (ts : List Token) → IsName name → is_name_byte y ≡ false
-    → HasTokens (y ∷ text) ts → HasTokens (name ++ y ∷ text) (NameToken name ∷ ts)
+    → HasTokens (y ∷ text) ts → HasTokens (name ++ y ∷ text) (tokens.Name name ∷ ts)
 HasTokens-name [] y text ts is stops has = absurd is
 HasTokens-name (b ∷ bs) y text ts is stops has =
     let first = or_left (begins_name b) (is_digit b) is.0 in
-    HasTokens-next ((b ∷ bs) ++ y ∷ text) (NameToken (b ∷ bs)) b (bs ++ y ∷ text) (y ∷ text) ts
+    HasTokens-next ((b ∷ bs) ++ y ∷ text) (tokens.Name (b ∷ bs)) b (bs ++ y ∷ text) (y ∷ text) ts
     (is_name_byte-after_gap b (bs ++ y ∷ text) first)
     (token_at-name b (bs ++ y ∷ text) is.0 ∙ name_at-again (b ∷ bs) y text (first, is.1) is.2 stops) has
 
 HasTokens-word : (word text : List ℕ) (ts : List Token) → IsWord word → HasTokens text ts
-    → HasTokens (34 ∷ (word ++ 34 ∷ text)) (WordToken word ∷ ts)
+    → HasTokens (34 ∷ (word ++ 34 ∷ text)) (tokens.Atom (Word word) ∷ ts)
 HasTokens-word word text ts is has =
-    HasTokens-next (34 ∷ (word ++ 34 ∷ text)) (WordToken word) 34 (word ++ 34 ∷ text) text ts refl (word_at-again word text is.0 is.1) has
+    HasTokens-next (34 ∷ (word ++ 34 ∷ text)) (tokens.Atom (Word word)) 34 (word ++ 34 ∷ text) text ts refl (word_at-again word text is.0 is.1) has
 
 HasTokens-digits : (ds : List ℕ) (z : ℤ) (y : ℕ) (text : List ℕ) (ts : List Token) → AllDecimal ds → 0 < length ds
-    → digits_at pos (ds ++ y ∷ text) ≡ Ok (NumberToken z, y ∷ text) → HasTokens (y ∷ text) ts → HasTokens (ds ++ y ∷ text) (NumberToken z ∷ ts)
+    → digits_at pos (ds ++ y ∷ text) ≡ Ok (tokens.Atom (Number z), y ∷ text) → HasTokens (y ∷ text) ts → HasTokens (ds ++ y ∷ text) (tokens.Atom (Number z) ∷ ts)
 HasTokens-digits [] z y text ts all some formed has = absurd (omega arith)
 HasTokens-digits (d ∷ ds) z y text ts all some formed has =
-    HasTokens-next ((d ∷ ds) ++ y ∷ text) (NumberToken z) d (ds ++ y ∷ text) (y ∷ text) ts
+    HasTokens-next ((d ∷ ds) ++ y ∷ text) (tokens.Atom (Number z)) d (ds ++ y ∷ text) (y ∷ text) ts
     (is_name_byte-after_gap d (ds ++ y ∷ text) (or_right (begins_name d) (is_digit d) all.0)) (token_at-digit d (ds ++ y ∷ text) all.0 ∙ formed) has
 
 HasTokens-number : (z : ℤ) (y : ℕ) (text : List ℕ) (ts : List Token) → IsNumber z → is_digit y ≡ false
-    → HasTokens (y ∷ text) ts → HasTokens (signed_decimal z ++ y ∷ text) (NumberToken z ∷ ts)
+    → HasTokens (y ∷ text) ts → HasTokens (signed_decimal z ++ y ∷ text) (tokens.Atom (Number z) ∷ ts)
 HasTokens-number (pos n) y text ts is stops has =
     HasTokens-digits (decimal n) (pos n) y text ts (decimal-all n is) (decimal_nonempty n (omega arith)) (digits_at-again pos n y text is stops) has
 HasTokens-number (negsuc n) y text ts is stops has =
-    HasTokens-next (45 ∷ (decimal (suc n) ++ y ∷ text)) (NumberToken (negsuc n)) 45 (decimal (suc n) ++ y ∷ text) (y ∷ text) ts refl
+    HasTokens-next (45 ∷ (decimal (suc n) ++ y ∷ text)) (tokens.Atom (Number (negsuc n))) 45 (decimal (suc n) ++ y ∷ text) (y ∷ text) ts refl
     (digits_at-again negative (suc n) y text is stops) has
 
 pub HasTokens-atom : (a : Atom) (y : ℕ) (text : List ℕ) (ts : List Token) → IsAtom a → is_digit y ≡ false
-    → HasTokens (y ∷ text) ts → HasTokens (atom_text a ++ y ∷ text) (atom_token a ∷ ts)
+    → HasTokens (y ∷ text) ts → HasTokens (atom_text a ++ y ∷ text) (tokens.Atom a ∷ ts)
 HasTokens-atom (Number z) y text ts is stops has = HasTokens-number z y text ts is stops has
 HasTokens-atom (Word word) y text ts is stops has =
     rw (append_assoc word (34 ∷ []) (y ∷ text)) (HasTokens-word word (y ∷ text) ts is has)

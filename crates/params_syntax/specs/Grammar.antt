@@ -1,61 +1,58 @@
 -- The grammar: the tokens that a tree is spelled with.
-use Rattle.std.specs.Prelude.{◌≡◌, ℕ, suc, List, [], ◌∷◌, ◌++◌, ◌==◌, cond}
+use Rattle.std.specs.Prelude.{◌≡◌, ℕ, suc, List, [], ◌∷◌, ◌++◌}
 use Rattle.std.specs.List.{flat_map}
 use Rattle.params_syntax.specs.declared.tree.Atom.{Atom}
-use Rattle.params_syntax.specs.declared.tree.Atom.TheVariants.{Number, Word}
 use Rattle.params_syntax.specs.declared.tree.Value.{Value}
 use Rattle.params_syntax.specs.declared.tree.Value.TheVariants as values
 use Rattle.params_syntax.specs.declared.tree.Setting.{Setting}
 use Rattle.params_syntax.specs.declared.tree.Item.{Item}
 use Rattle.params_syntax.specs.declared.tree.Item.TheVariants.{Set, Sub}
 use Rattle.params_syntax.specs.declared.tree.Group.{Group}
-use Rattle.params_syntax.specs.Tokens.{Token, Sign, NameToken, NumberToken, WordToken}
+use Rattle.params_syntax.specs.declared.token.Token.{Token}
+use Rattle.params_syntax.specs.declared.token.Token.TheVariants as tokens
+use Rattle.params_syntax.specs.declared.token.Sign.TheVariants.{Opens, Closes, Equals, Ends, ListOpens, ListCloses, Comma}
 
--- `{`, `}`, `=`, `;`, `[`, `]`, `,`
+-- the signs
 abbrev pub opens : Token
-opens = Sign 123
+opens = tokens.Sign Opens
 
 abbrev pub closes : Token
-closes = Sign 125
+closes = tokens.Sign Closes
 
 abbrev pub equals : Token
-equals = Sign 61
+equals = tokens.Sign Equals
 
 abbrev pub ends : Token
-ends = Sign 59
+ends = tokens.Sign Ends
 
 abbrev pub list_opens : Token
-list_opens = Sign 91
+list_opens = tokens.Sign ListOpens
 
 abbrev pub list_closes : Token
-list_closes = Sign 93
+list_closes = tokens.Sign ListCloses
 
 abbrev pub comma : Token
-comma = Sign 44
-
-abbrev pub atom_token : Atom → Token
-atom_token (Number z) = NumberToken z
-atom_token (Word word) = WordToken word
+comma = tokens.Sign Comma
 
 -- numbers and words with a comma between each two
 abbrev pub elements : List Atom → List Token
 elements [] = []
-elements (a ∷ []) = atom_token a ∷ []
-elements (a ∷ b ∷ atoms) = atom_token a ∷ comma ∷ elements (b ∷ atoms)
+elements (a ∷ []) = tokens.Atom a ∷ []
+elements (a ∷ b ∷ atoms) = tokens.Atom a ∷ comma ∷ elements (b ∷ atoms)
 
 abbrev pub value_tokens : Value → List Token
-value_tokens (values.Atom atom) = atom_token atom ∷ []
+value_tokens (values.Atom atom) = tokens.Atom atom ∷ []
 value_tokens (values.List atoms) = list_opens ∷ elements atoms ++ list_closes ∷ []
 
 abbrev pub setting_tokens : Setting → List Token
-setting_tokens s = NameToken s.name ∷ equals ∷ value_tokens s.value ++ ends ∷ []
+setting_tokens s = tokens.Name s.name ∷ equals ∷ value_tokens s.value ++ ends ∷ []
 
 abbrev pub item_tokens : Item → List Token
 item_tokens (Set s) = setting_tokens s
-item_tokens (Sub name sets) = NameToken name ∷ opens ∷ flat_map setting_tokens sets ++ closes ∷ []
+item_tokens (Sub name sets) = tokens.Name name ∷ opens ∷ flat_map setting_tokens sets ++ closes ∷ []
 
 abbrev pub group_tokens : Group → List Token
-group_tokens g = NameToken g.name ∷ opens ∷ flat_map item_tokens g.items ++ closes ∷ []
+group_tokens g = tokens.Name g.name ∷ opens ∷ flat_map item_tokens g.items ++ closes ∷ []
 
 -- The tokens of a tree: any number of groups.
 abbrev pub tree_tokens : List Group → List Token
@@ -67,10 +64,10 @@ BeginTree ts = (groups : List Group) × (more : List Token) × (ts ++ more ≡ t
 
 -- one token more: how many numbers and words stand at the end with nothing but commas between them
 abbrev pub counted : ℕ → Token → ℕ
-counted n (Sign b) = cond (b == 44) n 0
-counted n (NameToken name) = 0
-counted n (NumberToken z) = suc n
-counted n (WordToken word) = suc n
+counted n (tokens.Sign Comma) = n
+counted n (tokens.Sign sign) = 0
+counted n (tokens.Name name) = 0
+counted n (tokens.Atom atom) = suc n
 
 abbrev pub counted_on : ℕ → List Token → ℕ
 counted_on n [] = n

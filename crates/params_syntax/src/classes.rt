@@ -1,7 +1,6 @@
 //! The kinds of bytes that tokens are made of.
-ghost use Rattle.std.specs.Prelude.{◌≡◌, ◌<◌, false, MatchOption};
-ghost use Rattle.params_syntax.specs.Tokens.{is_digit, begins_name, is_name_byte, is_word_byte, is_blank, is_sign};
-ghost use Rattle.params_syntax.specs.Lexemes.{sign_byte};
+ghost use Rattle.std.specs.Prelude.{◌≡◌};
+ghost use Rattle.params_syntax.specs.Tokens.{is_digit, begins_name, is_name_byte, is_word_byte, is_blank, sign_of};
 
 use crate::token::Sign;
 
@@ -42,7 +41,7 @@ pub fn is_blank(b: u8) -> bool
 
 /// The sign of a byte, where it is one.
 pub fn sign_of(b: u8) -> Option<Sign>
-    ensures sign { MatchOption result (is_sign b ≡ false) (λ sign. sign_byte sign ≡ b) }
+    ensures sign { result ≡ sign_of b }
 {
     match b {
         b'{' => Some(Sign::Opens),

@@ -1,13 +1,15 @@
 //! The token at the front of a text.
-ghost use Rattle.std.specs.Prelude.{◌≡◌, ℕ, ◌+◌, ◌<◌, ◌≤◌, ◌∷◌, List, length, true, false, slice_index, IfSome, IfNone};
+ghost use Rattle.std.specs.Prelude.{◌≡◌, ℕ, ◌<◌, ◌≤◌, ◌∷◌, length, true, slice_index, IfSome, IfNone};
 ghost use Rattle.std.specs.List.{prefix_len};
 ghost use Rattle.std.specs.Str.Parse.{digits_value};
-ghost use Rattle.params_syntax.specs.Tokens.{is_digit, is_name_byte, is_word_byte, greatest, after_gap, name_at, digits_at, word_at, token_at};
-ghost use Rattle.params_syntax.specs.Lexemes.{token_of, Gives, signed};
+ghost use Rattle.params_syntax.specs.Limits.{greatest};
+ghost use Rattle.params_syntax.specs.Tokens.{is_digit, is_name_byte, is_word_byte, after_gap, name_at, digits_at, word_at, token_at};
+ghost use Rattle.params_syntax.specs.Machine.Forming.{Gives, signed};
 
 use crate::classes::{begins_name, is_blank, is_digit, is_name_byte, is_word_byte, sign_of};
 use crate::fault::SyntaxKind;
-use crate::token::Lexeme;
+use crate::token::Token;
+use crate::tree::Atom;
 use cello_num::Name;
 
 /// The greatest number.
@@ -57,12 +59,12 @@ fn word_len(text: &[u8]) -> usize
 }
 
 /// A name, and what stands after it.
-fn name_at(text: &[u8]) -> Result<(Lexeme, &[u8]), SyntaxKind>
-    ensures name { Gives (λ x. (token_of x.0, x.1.now)) result (name_at text.now) }
+fn name_at(text: &[u8]) -> Result<(Token, &[u8]), SyntaxKind>
+    ensures name { Gives (λ x. (x.0, x.1.now)) result (name_at text.now) }
 {
     let (name, rest) = text.split_at(name_len(text));
     match Name::of(name) {
-        Some(name) => Ok((Lexeme::Name(name), rest)),
+        Some(name) => Ok((Token::Name(name), rest)),
         None => Err(SyntaxKind::Name),
     }
 }
@@ -88,8 +90,8 @@ fn value_of(digits: &[u8]) -> Option<u64>
 }
 
 /// A number after its sign, and what stands after it.
-fn digits_at(negative: bool, text: &[u8]) -> Result<(Lexeme, &[u8]), SyntaxKind>
-    ensures number { Gives (λ x. (token_of x.0, x.1.now)) result (digits_at (signed negative) text.now) }
+fn digits_at(negative: bool, text: &[u8]) -> Result<(Token, &[u8]), SyntaxKind>
+    ensures number { Gives (λ x. (x.0, x.1.now)) result (digits_at (signed negative) text.now) }
 {
     let (digits, rest) = text.split_at(digits_len(text));
     if digits.is_empty() {
@@ -99,19 +101,19 @@ fn digits_at(negative: bool, text: &[u8]) -> Result<(Lexeme, &[u8]), SyntaxKind>
         Some(value) => {
             let value = value as i64;
             let number = if negative { -value } else { value };
-            Ok((Lexeme::Number(number), rest))
+            Ok((Token::Atom(Atom::Number(number)), rest))
         }
         None => Err(SyntaxKind::Number),
     }
 }
 
 /// A word after its opening `"`, and what stands after it.
-fn word_at(text: &[u8]) -> Result<(Lexeme, &[u8]), SyntaxKind>
-    ensures word { Gives (λ x. (token_of x.0, x.1.now)) result (word_at text.now) }
+fn word_at(text: &[u8]) -> Result<(Token, &[u8]), SyntaxKind>
+    ensures word { Gives (λ x. (x.0, x.1.now)) result (word_at text.now) }
 {
     let (word, rest) = text.split_at(word_len(text));
     match (Name::of(word), rest) {
-        (Some(word), [b'"', rest @ ..]) => Ok((Lexeme::Word(word), rest)),
+        (Some(word), [b'"', rest @ ..]) => Ok((Token::Atom(Atom::Word(word)), rest)),
         _ => Err(SyntaxKind::Word),
     }
 }
@@ -121,12 +123,12 @@ pub fn token_at<'a>(
     first: u8,
     after: &'a [u8],
     text: &'a [u8],
-) -> Result<(Lexeme, &'a [u8]), SyntaxKind>
+) -> Result<(Token, &'a [u8]), SyntaxKind>
     requires front { text.now ≡ first ∷ after.now }
-    ensures token { Gives (λ x. (token_of x.0, x.1.now)) result (token_at first after.now) }
+    ensures token { Gives (λ x. (x.0, x.1.now)) result (token_at first after.now) }
 {
     if let Some(sign) = sign_of(first) {
-        Ok((Lexeme::Sign(sign), after))
+        Ok((Token::Sign(sign), after))
     } else if begins_name(first) {
         name_at(text)
     } else if is_digit(first) {

@@ -1,22 +1,18 @@
 //! The state of reading after one more token.
-ghost use Rattle.std.specs.Prelude.{◌≡◌, ℕ, ◌<◌, ◌≤◌, IfOk, Some, None};
-ghost use Rattle.params_syntax.specs.Lexemes.{token_of, sign_byte};
-ghost use Rattle.params_syntax.specs.Steps.{Steps};
-ghost use Rattle.params_syntax.specs.States.{on_name, on_atom, in_sub, on_opens, closed, on_closes, on_equals, with_setting, on_ends, on_list_opens, on_list_closes, on_comma, on_sign, step};
+ghost use Rattle.std.specs.Prelude.{◌≡◌, IfOk};
+ghost use Rattle.params_syntax.specs.Machine.Steps.{StepsTo};
+ghost use Rattle.params_syntax.specs.Machine.States.{on_name, on_atom, in_sub, on_opens, closed, on_closes, on_equals, with_setting, on_ends, on_list_opens, on_list_closes, on_comma, on_sign, step};
 
 use crate::refusal::Refusal;
 use crate::state::{Frame, State};
-use crate::token::{Lexeme, Sign};
-use crate::tree::{Atom, Atoms, Group, Item, Items, Setting, Settings, Value};
+use crate::token::{Sign, Token};
+use crate::tree::{Atom, Atoms, Group, Item, Items, MOST_ELEMENTS, Setting, Settings, Value};
 use cello_num::{Memory, Name};
 use std::alloc::Global;
 
-/// The most elements of a list.
-const MOST: usize = 64;
-
 /// After a name.
 fn on_name(state: State, name: Name) -> Result<State, Refusal>
-    ensures step { Steps result (on_name state name) }
+    ensures step { StepsTo result (on_name state name) }
 {
     match state {
         State::Top { groups } => Ok(State::GroupNamed {
@@ -30,7 +26,7 @@ fn on_name(state: State, name: Name) -> Result<State, Refusal>
 
 /// After a number or a word.
 fn on_atom(alloc: Global, state: State, atom: Atom) -> Result<State, Refusal>
-    ensures step { Steps result (on_atom state atom) }
+    ensures step { StepsTo result (on_atom state atom) }
 {
     match state {
         State::Assigned { frame, name } => {
@@ -42,7 +38,7 @@ fn on_atom(alloc: Global, state: State, atom: Atom) -> Result<State, Refusal>
             Ok(State::Element { frame, name, atoms })
         }
         State::Separated { frame, name, atoms } => {
-            if atoms.items().len() == MOST {
+            if atoms.items().len() == MOST_ELEMENTS {
                 return Err(Refusal::Length);
             }
             let atoms = atoms.with(atom)?;
@@ -54,7 +50,7 @@ fn on_atom(alloc: Global, state: State, atom: Atom) -> Result<State, Refusal>
 
 /// A sub begins, where none is open.
 fn in_sub(alloc: Global, frame: Frame, sub: Name) -> Result<State, Refusal>
-    ensures step { Steps result (in_sub frame sub) }
+    ensures step { StepsTo result (in_sub frame sub) }
 {
     match frame {
         Frame::InGroup {
@@ -78,7 +74,7 @@ fn in_sub(alloc: Global, frame: Frame, sub: Name) -> Result<State, Refusal>
 
 /// After a `{`.
 fn on_opens(alloc: Global, state: State) -> Result<State, Refusal>
-    ensures step { Steps result (on_opens state) }
+    ensures step { StepsTo result (on_opens state) }
 {
     match state {
         State::GroupNamed { groups, group } => {
@@ -128,7 +124,7 @@ fn closed(frame: Frame) -> Result<State, Memory>
 
 /// After a `}`.
 fn on_closes(state: State) -> Result<State, Refusal>
-    ensures step { Steps result (on_closes state) }
+    ensures step { StepsTo result (on_closes state) }
 {
     match state {
         State::Inside { frame } => Ok(closed(frame)?),
@@ -138,7 +134,7 @@ fn on_closes(state: State) -> Result<State, Refusal>
 
 /// After a `=`.
 fn on_equals(state: State) -> Result<State, Refusal>
-    ensures step { Steps result (on_equals state) }
+    ensures step { StepsTo result (on_equals state) }
 {
     match state {
         State::Named { frame, name } => Ok(State::Assigned { frame, name }),
@@ -184,7 +180,7 @@ fn with_setting(frame: Frame, setting: Setting) -> Result<Frame, Memory>
 
 /// After a `;`.
 fn on_ends(state: State) -> Result<State, Refusal>
-    ensures step { Steps result (on_ends state) }
+    ensures step { StepsTo result (on_ends state) }
 {
     match state {
         State::Valued { frame, name, value } => {
@@ -197,7 +193,7 @@ fn on_ends(state: State) -> Result<State, Refusal>
 
 /// After a `[`.
 fn on_list_opens(state: State) -> Result<State, Refusal>
-    ensures step { Steps result (on_list_opens state) }
+    ensures step { StepsTo result (on_list_opens state) }
 {
     match state {
         State::Assigned { frame, name } => Ok(State::Listed { frame, name }),
@@ -207,7 +203,7 @@ fn on_list_opens(state: State) -> Result<State, Refusal>
 
 /// After a `]`.
 fn on_list_closes(alloc: Global, state: State) -> Result<State, Refusal>
-    ensures step { Steps result (on_list_closes state) }
+    ensures step { StepsTo result (on_list_closes state) }
 {
     match state {
         State::Listed { frame, name } => {
@@ -224,7 +220,7 @@ fn on_list_closes(alloc: Global, state: State) -> Result<State, Refusal>
 
 /// After a `,`.
 fn on_comma(state: State) -> Result<State, Refusal>
-    ensures step { Steps result (on_comma state) }
+    ensures step { StepsTo result (on_comma state) }
 {
     match state {
         State::Element { frame, name, atoms } => Ok(State::Separated { frame, name, atoms }),
@@ -234,7 +230,7 @@ fn on_comma(state: State) -> Result<State, Refusal>
 
 /// After a sign.
 fn on_sign(alloc: Global, state: State, sign: Sign) -> Result<State, Refusal>
-    ensures step { Steps result (on_sign state (sign_byte sign)) }
+    ensures step { StepsTo result (on_sign state sign) }
 {
     match sign {
         Sign::Opens => on_opens(alloc, state),
@@ -248,13 +244,12 @@ fn on_sign(alloc: Global, state: State, sign: Sign) -> Result<State, Refusal>
 }
 
 /// The state after one more token, or why it isn't taken.
-pub fn advance(alloc: Global, state: State, lexeme: Lexeme) -> Result<State, Refusal>
-    ensures step { Steps result (step state (token_of lexeme)) }
+pub fn advance(alloc: Global, state: State, token: Token) -> Result<State, Refusal>
+    ensures step { StepsTo result (step state token) }
 {
-    match lexeme {
-        Lexeme::Sign(sign) => on_sign(alloc, state, sign),
-        Lexeme::Name(name) => on_name(state, name),
-        Lexeme::Number(number) => on_atom(alloc, state, Atom::Number(number)),
-        Lexeme::Word(word) => on_atom(alloc, state, Atom::Word(word)),
+    match token {
+        Token::Sign(sign) => on_sign(alloc, state, sign),
+        Token::Name(name) => on_name(state, name),
+        Token::Atom(atom) => on_atom(alloc, state, atom),
     }
 }

@@ -1,7 +1,8 @@
 //! Reading a text: its tree, or its first fault.
-ghost use Rattle.std.specs.Prelude.{◌≡◌, ℕ, ◌≤◌, length, IfOk, IfErr};
-ghost use Rattle.params_syntax.specs.Reading.{longest, Spells, IsUnread};
-ghost use Rattle.params_syntax.specs.Steps.{fault_of, refusal_of, KeepsTop, end_of};
+ghost use Rattle.std.specs.Prelude.{◌≡◌, ◌≤◌, length, IfOk, IfErr};
+ghost use Rattle.params_syntax.specs.Limits.{longest};
+ghost use Rattle.params_syntax.specs.Reading.{Spells, IsUnread};
+ghost use Rattle.params_syntax.specs.Machine.Steps.{fault_of, refusal_of, KeepsTop, end_of};
 
 use crate::fault::{ReadError, SyntaxFault, SyntaxKind};
 use crate::lexer::{after_gap, token_at};
@@ -62,11 +63,11 @@ fn read_short(alloc: Global, text: &[u8]) -> Result<Tree, ReadError>
     let mut here = after_gap(text);
     while let [first, tail @ ..] = here {
         let offset = text.len() - here.len();
-        let (lexeme, after) = match token_at(*first, tail, here) {
+        let (token, after) = match token_at(*first, tail, here) {
             Ok(found) => found,
             Err(kind) => return Err(fault(offset, kind)),
         };
-        state = match advance(alloc, state, lexeme) {
+        state = match advance(alloc, state, token) {
             Ok(next) => next,
             Err(refusal) => return Err(refused(offset, refusal)),
         };

@@ -1,5 +1,6 @@
 //! The tokens of a text.
 
+use crate::tree::Atom;
 use cello_num::Name;
 
 /// A sign.
@@ -21,11 +22,10 @@ pub enum Sign {
     Comma,
 }
 
-/// A token with its value.
+/// A sign, a name, or a number or word.
 #[derive(Debug, Clone, Copy, PartialEq, Eq)]
-pub enum Lexeme {
+pub enum Token {
     Sign(Sign),
     Name(Name),
-    Number(i64),
-    Word(Name),
+    Atom(Atom),
 }

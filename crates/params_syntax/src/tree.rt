@@ -1,5 +1,6 @@
 //! The tree of a parameter text: groups of settings and subs.
 ghost use Rattle.std.specs.Prelude.{◌≡◌, ◌≤◌, length};
+ghost use Rattle.params_syntax.specs.Limits.{most_elements};
 ghost use Rattle.params_syntax.specs.Trees.{IsTree};
 
 pub mod growing;
@@ -16,6 +17,9 @@ pub enum Atom {
     Word(Name),
 }
 
+/// The most elements of a list.
+pub const MOST_ELEMENTS: usize = 64;
+
 /// The elements of a list: numbers and words in the order of the text, at most 64.
 #[derive(Drop)]
 pub struct Atoms {
@@ -25,18 +29,19 @@ pub struct Atoms {
 impl Model for Atoms {
     ghost use Rattle.std.specs.Prelude.{List, ◌≤◌, length};
     ghost use Rattle.params_syntax.specs.declared.tree.Atom.{Atom};
+    ghost use Rattle.params_syntax.specs.Limits.{most_elements};
 
     ghost Value = { List Atom };
 
     ghost view = { λ a. a.atoms.items };
 
-    ghost invariant = { λ a. length a.atoms.items ≤ 64 };
+    ghost invariant = { λ a. length a.atoms.items ≤ most_elements };
 }
 
 impl Atoms {
     /// A list of these elements.
     pub fn of(atoms: Vec<Atom>) -> Atoms
-        requires few { length atoms.items ≤ 64 }
+        requires few { length atoms.items ≤ most_elements }
         ensures items { result ≡ atoms.items }
     {
         Atoms { atoms }
@@ -45,7 +50,7 @@ impl Atoms {
     /// The elements in order.
     pub fn items(&self) -> &[Atom]
         ensures items { result.now ≡ self.now }
-        ensures few { length self.now ≤ 64 }
+        ensures few { length self.now ≤ most_elements }
     {
         &self.atoms
     }

@@ -1,7 +1,6 @@
 //! The canonical text of a tree.
 ghost use Rattle.std.specs.Prelude.{◌≡◌, ◌++◌, IfOk, OnOk};
 ghost use Rattle.std.specs.List.{flat_map};
-ghost use Rattle.std.specs.Fmt.{signed_decimal};
 ghost use Rattle.params_syntax.specs.Canonical.{
   atom_text,
   elements_text,
@@ -15,8 +14,8 @@ ghost use Rattle.params_syntax.specs.Canonical.{
 
 use crate::tree::{Atom, Group, Item, Setting, Tree, Value};
 use cello_num::Memory;
-use itoa::Buffer;
 use std::alloc::Global;
+use text_line::Line;
 
 /// The canonical text of a tree.
 pub fn write(alloc: Global, tree: &Tree) -> Result<Vec<u8>, Memory>
@@ -53,15 +52,15 @@ fn push_item(text: &mut Vec<u8>, item: &Item) -> Result<(), Memory>
 {
     text.extend_from_slice(b"  ")?;
     match item {
-        Item::Set(setting) => push_setting(text, setting),
+        Item::Set(setting) => push_setting(text, setting)?,
         Item::Sub { name, sets } => {
             text.extend_from_slice(name.bytes())?;
             text.extend_from_slice(b" {\n")?;
             push_settings(text, sets.items())?;
             text.extend_from_slice(b"  }\n")?;
-            Ok(())
         }
     }
+    Ok(())
 }
 
 fn push_settings(text: &mut Vec<u8>, sets: &[Setting]) -> Result<(), Memory>
@@ -88,14 +87,14 @@ fn push_value(text: &mut Vec<u8>, value: &Value) -> Result<(), Memory>
     ensures text { OnOk result (text.new.items ≡ text.old.items ++ value_text value.now) }
 {
     match value {
-        Value::Atom(atom) => push_atom(text, *atom),
+        Value::Atom(atom) => text.extend_from_slice(atom_line(*atom).bytes())?,
         Value::List(atoms) => {
             text.extend_from_slice(b"[")?;
             push_elements(text, atoms.items())?;
             text.extend_from_slice(b"]")?;
-            Ok(())
         }
     }
+    Ok(())
 }
 
 fn push_elements(text: &mut Vec<u8>, atoms: &[Atom]) -> Result<(), Memory>
@@ -105,29 +104,23 @@ fn push_elements(text: &mut Vec<u8>, atoms: &[Atom]) -> Result<(), Memory>
         if i > 0 {
             text.extend_from_slice(b", ")?;
         }
-        push_atom(text, *atom)?;
+        text.extend_from_slice(atom_line(*atom).bytes())?;
     }
     Ok(())
 }
 
-fn push_atom(text: &mut Vec<u8>, atom: Atom) -> Result<(), Memory>
-    ensures text { OnOk result (text.new.items ≡ text.old.items ++ atom_text atom) }
+/// A number or a word.
+fn atom_line(atom: Atom) -> Line
+    ensures text { result ≡ atom_text atom }
 {
+    let mut line = Line::new();
     match atom {
-        Atom::Number(number) => push_number(text, number),
+        Atom::Number(number) => line.push_number(number),
         Atom::Word(word) => {
-            text.extend_from_slice(b"\"")?;
-            text.extend_from_slice(word.bytes())?;
-            text.extend_from_slice(b"\"")?;
-            Ok(())
+            line.push(b"\"");
+            line.push(word.bytes());
+            line.push(b"\"");
         }
     }
-}
-
-fn push_number(text: &mut Vec<u8>, number: i64) -> Result<(), Memory>
-    ensures text { OnOk result (text.new.items ≡ text.old.items ++ signed_decimal number) }
-{
-    let mut buffer = Buffer::new();
-    text.extend_from_slice(buffer.format(number).as_bytes())?;
-    Ok(())
+    line
 }

@@ -1,5 +1,6 @@
 //! Lists of a tree that grow by one element.
 ghost use Rattle.std.specs.Prelude.{◌≡◌, ◌<◌, [], ◌∷◌, ◌++◌, length, IfOk};
+ghost use Rattle.params_syntax.specs.Limits.{most_elements};
 
 use crate::tree::{Atom, Atoms, Group, Item, Items, Setting, Settings};
 use cello_num::Memory;
@@ -97,7 +98,7 @@ impl Atoms {
 
     /// One element more, where there is room.
     pub fn with(mut self, atom: Atom) -> Result<Atoms, Memory>
-        requires room { length self < 64 }
+        requires room { length self < most_elements }
         ensures more { IfOk result (λ atoms. atoms ≡ self ++ atom ∷ []) }
     {
         self.atoms.push(atom)?;

@@ -1,3 +1,4 @@
+-- The loop over blanks and comments.
 use Rattle.std.proofs.Common.{◌≡◌, length}
 use Rattle.params_syntax.specs.Tokens.{skipped, after_gap}
 use Rattle.params_syntax.proofs.lexer.after_gap.Given as goal

@@ -1,3 +1,4 @@
+-- The digits before a token's end are digits.
 use Rattle.params_syntax.proofs.Digits.{AreDigits-front}
 use Rattle.params_syntax.proofs.lexer.digits_at.Goals as goal
 

@@ -1,3 +1,4 @@
+-- One digit more, and a value that is out of range.
 use Rattle.std.proofs.Common.{◌+◌, refl, arith}
 use Rattle.params_syntax.proofs.Digits.{digits_value-next, digits_value-high}
 use Rattle.params_syntax.proofs.lexer.value_of.Goals as goal

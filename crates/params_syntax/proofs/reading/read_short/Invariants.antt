@@ -1,3 +1,4 @@
+-- The loop over the tokens of a text.
 use Rattle.std.proofs.Common.{◌≡◌, ℕ, List, length}
 use Rattle.params_syntax.specs.Tokens.{after_gap}
 use Rattle.params_syntax.proofs.Courses.{Course}

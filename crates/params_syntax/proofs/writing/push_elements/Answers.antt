@@ -1,3 +1,4 @@
+-- One element more, after a comma or first.
 use Rattle.std.proofs.Common.{◌++◌, append_assoc, arith, take}
 use Rattle.std.specs.Prelude.{codes}
 use Rattle.params_syntax.specs.Canonical.{atom_text, elements_text}
@@ -17,9 +18,9 @@ loop-i-preserved c =
           let more = elements_text-more atoms i a (omega arith) (omega arith) c.index-atoms-i.is in
           let parts = append_assoc (before ++ front) (codes ", ") (atom_text a) in
           let joined = append_assoc before front (codes ", " ++ atom_text a) in
-          cc (more, parts, joined, c.in_ok-push_atom.ensures.text, w.in_ok-extend_from_slice.ensures.items)
+          cc (more, parts, joined, c.atom_line.ensures.text, c.bytes.ensures.bytes, c.in_ok-extend_from_slice-2.ensures.items, w.in_ok-extend_from_slice.ensures.items)
       | else-i-gt0 w ↦
           let first = elements_text-first atoms i a (omega arith) (omega arith) c.index-atoms-i.is in
           let joined = append_assoc before front (atom_text a) in
-          cc (first, joined, c.in_ok-push_atom.ensures.text)
+          cc (first, joined, c.atom_line.ensures.text, c.bytes.ensures.bytes, c.in_ok-extend_from_slice-2.ensures.items)
     ]

@@ -1,3 +1,4 @@
+-- The loop over the elements of a list.
 use Rattle.std.proofs.Common.{◌≡◌, ◌++◌, take}
 use Rattle.params_syntax.specs.Canonical.{elements_text}
 use Rattle.params_syntax.proofs.writing.push_elements.Given as goal

@@ -1,3 +1,4 @@
+-- The loop over the items of a group.
 use Rattle.std.proofs.Common.{◌≡◌, ◌++◌, take}
 use Rattle.std.specs.List.{flat_map}
 use Rattle.params_syntax.specs.Canonical.{item_text}

@@ -1,3 +1,4 @@
+-- The loop over the settings of a sub.
 use Rattle.std.proofs.Common.{◌≡◌, ◌++◌, take}
 use Rattle.std.specs.List.{flat_map}
 use Rattle.params_syntax.specs.Canonical.{sub_setting_text}

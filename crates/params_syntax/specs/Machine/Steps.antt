@@ -11,20 +11,21 @@ use Rattle.params_syntax.specs.declared.state.State.{State}
 use Rattle.params_syntax.specs.declared.state.State.TheVariants.{Top}
 use Rattle.params_syntax.specs.declared.refusal.Refusal.{Refusal}
 use Rattle.params_syntax.specs.declared.refusal.Refusal.TheVariants.{Unexpected, Length, Memory}
+use Rattle.params_syntax.specs.Limits.{most_elements}
 use Rattle.params_syntax.specs.Trees.{IsTree}
-use Rattle.params_syntax.specs.States.{open_elements}
+use Rattle.params_syntax.specs.Machine.States.{open_elements, at_top}
 
--- a list of more than 64 elements would be open
+-- a list of too many elements would be open
 abbrev pub IsFull : Option State → Type 0
 IsFull None = ⊥
-IsFull (Some next) = 64 < open_elements next
+IsFull (Some next) = most_elements < open_elements next
 
 -- A step gives this state, or refuses the token where there is none, or where a list would be too long.
-abbrev pub Steps : Result State Refusal → Option State → Type 0
-Steps (Ok next) o = (o ≡ Some next) × (open_elements next ≤ 64)
-Steps (Err Unexpected) o = o ≡ None
-Steps (Err Length) o = IsFull o
-Steps (Err Memory) o = Unit {0}
+abbrev pub StepsTo : Result State Refusal → Option State → Type 0
+StepsTo (Ok next) o = (o ≡ Some next) × (open_elements next ≤ most_elements)
+StepsTo (Err Unexpected) o = o ≡ None
+StepsTo (Err Length) o = IsFull o
+StepsTo (Err Memory) o = Unit {0}
 
 -- a fault at an offset
 abbrev pub fault_of : ℕ → SyntaxKind → ReadError
@@ -43,5 +44,4 @@ KeepsTop _ = Unit {0}
 
 -- what reading gives at the end of a text of this length
 abbrev pub end_of : ℕ → State → Result (List Group) ReadError
-end_of long (Top groups) = Ok groups
-end_of long _ = Err (fault_of long kinds.End)
+end_of long s = at_top Ok (Err (fault_of long kinds.End)) s

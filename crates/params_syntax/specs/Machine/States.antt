@@ -1,16 +1,19 @@
 -- How a tree is read token by token: the state after each token, where the token is allowed. Lists may be of any
 -- length here.
-use Rattle.std.specs.Prelude.{ℕ, List, [], ◌∷◌, ◌++◌, length, ◌==◌, cond, Option, Some, None}
+use Rattle.std.specs.Prelude.{ℕ, List, [], ◌∷◌, ◌++◌, length, Option, Some, None}
 use Rattle.params_syntax.specs.declared.tree.Atom.{Atom}
-use Rattle.params_syntax.specs.declared.tree.Atom.TheVariants.{Number, Word}
 use Rattle.params_syntax.specs.declared.tree.Value.TheVariants as values
 use Rattle.params_syntax.specs.declared.tree.Setting.{Setting}
 use Rattle.params_syntax.specs.declared.tree.Item.TheVariants.{Set, Sub}
+use Rattle.params_syntax.specs.declared.tree.Group.{Group}
 use Rattle.params_syntax.specs.declared.state.Frame.{Frame}
 use Rattle.params_syntax.specs.declared.state.Frame.TheVariants.{InGroup, InSub}
 use Rattle.params_syntax.specs.declared.state.State.{State}
 use Rattle.params_syntax.specs.declared.state.State.TheVariants.{Top, GroupNamed, Inside, Named, Assigned, Listed, Element, Separated, Valued}
-use Rattle.params_syntax.specs.Tokens.{Token, Sign, NameToken, NumberToken, WordToken}
+use Rattle.params_syntax.specs.declared.token.Sign.{Sign}
+use Rattle.params_syntax.specs.declared.token.Sign.TheVariants.{Opens, Closes, Equals, Ends, ListOpens, ListCloses, Comma}
+use Rattle.params_syntax.specs.declared.token.Token.{Token}
+use Rattle.params_syntax.specs.declared.token.Token.TheVariants as tokens
 
 -- after a name
 abbrev pub on_name : State → List ℕ → Option State
@@ -78,21 +81,20 @@ on_comma (Element frame name atoms) = Some (Separated frame name atoms)
 on_comma _ = None
 
 -- after a sign
-abbrev pub on_sign : State → ℕ → Option State
-on_sign s b =
-    cond (b == 123) (on_opens s)
-    (cond (b == 125) (on_closes s)
-    (cond (b == 61) (on_equals s)
-    (cond (b == 59) (on_ends s)
-    (cond (b == 91) (on_list_opens s)
-    (cond (b == 93) (on_list_closes s) (cond (b == 44) (on_comma s) None))))))
+abbrev pub on_sign : State → Sign → Option State
+on_sign s Opens = on_opens s
+on_sign s Closes = on_closes s
+on_sign s Equals = on_equals s
+on_sign s Ends = on_ends s
+on_sign s ListOpens = on_list_opens s
+on_sign s ListCloses = on_list_closes s
+on_sign s Comma = on_comma s
 
 -- the state after a token, where it is allowed
 abbrev pub step : State → Token → Option State
-step s (Sign b) = on_sign s b
-step s (NameToken name) = on_name s name
-step s (NumberToken z) = on_atom s (Number z)
-step s (WordToken word) = on_atom s (Word word)
+step s (tokens.Sign sign) = on_sign s sign
+step s (tokens.Name name) = on_name s name
+step s (tokens.Atom atom) = on_atom s atom
 
 -- how many elements the open list has
 abbrev pub open_elements : State → ℕ
@@ -100,3 +102,8 @@ open_elements (Element frame name atoms) = length atoms
 open_elements (Separated frame name atoms) = length atoms
 open_elements (Valued frame name (values.Atom atom)) = 1
 open_elements _ = 0
+
+-- one value between groups, and another inside of one
+abbrev pub at_top : {X : Type 0} → (List Group → X) → X → State → X
+at_top top inside (Top groups) = top groups
+at_top top inside _ = inside

@@ -1,0 +1,2 @@
+-- What contracts of lines cite.
+pub mod Shown
