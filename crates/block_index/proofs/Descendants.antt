@@ -5,15 +5,11 @@ use Rattle.std.proofs.lemmas.Bool.{cases_lt}
 use Rattle.std.proofs.lemmas.Nat.{pow-add, same_from_place}
 use Rattle.std.proofs.Math.Nat.{div-div-eq-div-mul, div-eq_of_lt-le, mul-div_cancel, mul-add-div_right, mul_assoc, mul_comm, add-mul, one-le-pow, div-mul-le_self, lt-div-mul-add}
 use Rattle.block_index.specs.Places.{Cube, IsPlace}
-use Rattle.block_index.specs.Order.{path_of, tree_number, filled_path, rank, IsBefore}
+use Rattle.block_index.specs.Order.{path_of, tree_number, filled_path, first_finest, rank, IsBefore}
 use Rattle.block_index.proofs.Covering.{Covers}
 use Rattle.block_index.proofs.Paths.{same_from_path, path_digits_below}
 use Rattle.block_index.proofs.Ranks.{tree_of-covers, path_of-covers, path_of-div, trees_from_number}
 use Rattle.block_index.proofs.Widths.{pow-rest}
-
--- the number of the first finest place that a place covers: the tree, and below it six octal digits
-abbrev pub first_finest : Cube → ℕ
-first_finest c = tree_number c * 8 ^ 6 + filled_path c
 
 -- how many finest places a place of a level covers
 abbrev pub finest_count : ℕ → ℕ

@@ -3,7 +3,7 @@
 use Rattle.std.specs.Prelude.{ℕ, zero, suc, ◌+◌, ◌-◌, ◌*◌, ◌/◌, ◌%◌, ◌^◌, ◌<◌}
 use Rattle.std.specs.Ordering.{nat_cmp, ordering_then}
 use Rattle.std.specs.declared.cmp.Ordering.{Ordering}
-use Rattle.block_index.specs.Places.{Cube}
+use Rattle.block_index.specs.Places.{Cube, deepest, most_trees}
 
 -- the child numbers from the root as octal digits, for a place of the given level and coordinates
 abbrev pub path_digits : ℕ → ℕ → ℕ → ℕ → ℕ
@@ -19,20 +19,32 @@ tree_of level x = x / 2 ^ level
 
 -- the number of a place's tree, by z, then y, then x
 abbrev pub tree_number : Cube → ℕ
-tree_number c = (tree_of c.level c.z * 16 + tree_of c.level c.y) * 16 + tree_of c.level c.x
+tree_number c = (tree_of c.level c.z * most_trees + tree_of c.level c.y) * most_trees + tree_of c.level c.x
 
--- The place in the order as one number: the tree, the path filled up with zeros to six digits, and the level,
--- which puts an ancestor before the descendants that begin as it does.
+-- the path filled up with zeros to as many digits as there are levels below a root
+abbrev pub filled_path : Cube → ℕ
+filled_path c = path_of c * 8 ^ (deepest - c.level)
+
+-- how many places of the deepest level lie in a tree
+abbrev pub deepest_in_tree : ℕ
+deepest_in_tree = 8 ^ deepest
+
+-- where a place begins on the line of all places of the deepest level, tree by tree: at the first one that it covers
+abbrev pub first_finest : Cube → ℕ
+first_finest c = tree_number c * deepest_in_tree + filled_path c
+
+-- how many levels there are
+abbrev pub level_count : ℕ
+level_count = deepest + 1
+
+-- The place in the order as one number: places stand as they begin, and of those that begin at one spot the coarser
+-- ones first.
 unfoldable pub rank : Cube → ℕ
-rank c = (tree_number c * 8 ^ 6 + path_of c * 8 ^ (6 - c.level)) * 7 + c.level
+rank c = first_finest c * level_count + c.level
 
 -- a stands before c
 abbrev pub IsBefore : Cube → Cube → Type 0
 IsBefore a c = rank a < rank c
-
--- the path filled up with zeros to six digits
-abbrev pub filled_path : Cube → ℕ
-filled_path c = path_of c * 8 ^ (6 - c.level)
 
 -- two places compared step by step: by tree along z, then y, then x, then by filled-up path, then by level
 abbrev pub compared_in_steps : Cube → Cube → Ordering

@@ -30,22 +30,30 @@ grid_of trees wraps finest = record {
   finest = finest;
 }
 
--- the limits of every place: at most level 6 and 16 trees along each axis
+-- the deepest level of a place, where 0 is a root
+abbrev pub deepest : ℕ
+deepest = 6
+
+-- the most trees along an axis
+abbrev pub most_trees : ℕ
+most_trees = 16
+
+-- the limits of every place: how deep, and how far along each axis
 pub record IsPlace (c : Cube) : Type 0 where
-  pub level : c.level ≤ 6
-  pub x : c.x < 16 * 2 ^ c.level
-  pub y : c.y < 16 * 2 ^ c.level
-  pub z : c.z < 16 * 2 ^ c.level
+  pub level : c.level ≤ deepest
+  pub x : c.x < most_trees * 2 ^ c.level
+  pub y : c.y < most_trees * 2 ^ c.level
+  pub z : c.z < most_trees * 2 ^ c.level
 
 -- the limits of every domain
 pub record IsDomain (grid : Grid) : Type 0 where
   pub some_x : 1 ≤ grid.trees_x
   pub some_y : 1 ≤ grid.trees_y
   pub some_z : 1 ≤ grid.trees_z
-  pub most_x : grid.trees_x ≤ 16
-  pub most_y : grid.trees_y ≤ 16
-  pub most_z : grid.trees_z ≤ 16
-  pub finest : grid.finest ≤ 6
+  pub most_x : grid.trees_x ≤ most_trees
+  pub most_y : grid.trees_y ≤ most_trees
+  pub most_z : grid.trees_z ≤ most_trees
+  pub finest : grid.finest ≤ deepest
 
 -- the place lies inside the domain
 pub record IsInside (grid : Grid) (c : Cube) : Type 0 where

@@ -1,22 +1,20 @@
 -- Touching places: different places whose closed boxes share a point, on periodic axes after a shift by the
 -- length of the domain. Lengths are in units of level 6: a place of level l is 2 ^ (6 - l) wide, a tree 64.
 use Rattle.std.specs.Prelude.{◌≡◌, ℕ, ◌+◌, ◌-◌, ◌*◌, ◌^◌, ◌≤◌, ◌⊎◌, Bool, IsTrue}
-use Rattle.block_index.specs.Places.{Cube, Grid}
+use Rattle.block_index.specs.Places.{Cube, Grid, deepest}
+use Rattle.block_index.specs.Axes.{MeetsAround}
+
+-- the width of a tree
+abbrev pub tree_width : ℕ
+tree_width = 2 ^ deepest
 
 -- the width of a place of a level
 abbrev pub width : ℕ → ℕ
-width level = 2 ^ (6 - level)
+width level = 2 ^ (deepest - level)
 
--- the closed intervals [a, a + w] and [c, c + v] share a point
-pub record Meets (a w c v : ℕ) : Type 0 where
-  pub left : a ≤ c + v
-  pub right : c ≤ a + w
-
--- Along one axis: the intervals share a point, or on a periodic axis one of them does so after a shift by the
--- axis's length.
+-- the stretches [a, a + w] and [c, c + v] of an axis of so many trees share a point, on a periodic axis also across its ends
 abbrev pub MeetsOnAxis : ℕ → Bool → ℕ → ℕ → ℕ → ℕ → Type 0
-MeetsOnAxis trees wraps a w c v =
-    Meets a w c v ⊎ (IsTrue wraps × (Meets (a + trees * 64) w c v ⊎ Meets a w (c + trees * 64) v))
+MeetsOnAxis trees wraps a w c v = MeetsAround (trees * tree_width) wraps a w c v
 
 -- different places whose closed boxes share a point
 pub record Touches (grid : Grid) (a c : Cube) : Type 0 where

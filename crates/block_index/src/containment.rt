@@ -1,3 +1,5 @@
+//! Whether a place lies inside a domain, and whether one contains another.
+
 ghost use Rattle.std.specs.Prelude.{◌≡◌, IsTrue, ◌↔◌};
 ghost use Rattle.block_index.specs.Places.{IsInside, covers};
 

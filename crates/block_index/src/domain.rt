@@ -1,5 +1,7 @@
+//! The domain: an array of octrees, its periodic axes, and its finest level.
+
 ghost use Rattle.std.specs.Prelude.{◌≡◌, ◌≤◌, [], ◌∷◌, ◌↔◌, IsSome, IfSome};
-ghost use Rattle.block_index.specs.Places.{IsDomain, grid_of};
+ghost use Rattle.block_index.specs.Places.{IsDomain, grid_of, most_trees};
 
 use crate::place::{DEEPEST, MOST_TREES};
 use std::marker::Model;
@@ -13,7 +15,7 @@ pub(crate) struct Axis {
 
 impl Axis {
     fn new(trees: u16, periodic: bool) -> Option<Axis>
-        ensures valid { IsSome result ↔ ((1 ≤ trees) × (trees ≤ 16)) }
+        ensures valid { IsSome result ↔ ((1 ≤ trees) × (trees ≤ most_trees)) }
         ensures value { IfSome result (λ axis. axis ≡ record { trees = trees; periodic = periodic }) }
     {
         if trees == 0 || trees > MOST_TREES {

@@ -1,3 +1,5 @@
+//! Laws about the order of places, touching and packing.
+
 ghost use Rattle.std.specs.Prelude.{◌≡◌, IsTrue};
 ghost use Rattle.std.specs.Cmp.{IsTotalOrder};
 ghost use Rattle.std.specs.Ordering.{nat_cmp};

@@ -1,3 +1,5 @@
+//! Places as words.
+
 ghost use Rattle.std.specs.Prelude.{◌≡◌, ℕ, ◌+◌, ◌*◌, ◌/◌, ◌%◌, ◌^◌, ◌≤◌, ◌<◌, IsSome, IfSome, IsNone, ◌↔◌};
 ghost use Rattle.block_index.specs.Places.{Cube, IsPlace, packed};
 

@@ -1,5 +1,7 @@
+//! Places: level and coordinates, parents and children, paths.
+
 ghost use Rattle.std.specs.Prelude.{◌≡◌, ℕ, ◌+◌, ◌-◌, ◌*◌, ◌/◌, ◌%◌, ◌^◌, ◌≤◌, ◌<◌, IsSome, IsNone, IfSome, ◌↔◌};
-ghost use Rattle.block_index.specs.Places.{IsPlace, child_of, parent_of, child_number};
+ghost use Rattle.block_index.specs.Places.{IsPlace, deepest, child_of, parent_of, child_number};
 ghost use Rattle.block_index.specs.Order.{path_of};
 
 use std::marker::Model;
@@ -100,7 +102,7 @@ impl Place {
     /// Child `k` of the eight one level down. Bit 0 of `k` is its half along x, bit 1 along y, bit 2 along z.
     pub fn child(self, k: u8) -> Place
         requires number { k < 8 }
-        requires room { self.level < 6 }
+        requires room { self.level < deepest }
         ensures value { result ≡ child_of self k }
         ensures limits { IsPlace result }
     {

@@ -1,67 +1,40 @@
-ghost use Rattle.std.specs.Prelude.{◌≡◌, ℕ, ◌+◌, ◌-◌, ◌*◌, ◌^◌, ◌≤◌, ◌<◌, ◌⊎◌, IsTrue, ◌↔◌};
-ghost use Rattle.block_index.specs.Places.{IsInside};
-ghost use Rattle.block_index.specs.Touching.{Meets, MeetsOnAxis, Touches, width};
+//! Whether two places touch.
 
+ghost use Rattle.std.specs.Prelude.{◌≡◌, ℕ, ◌+◌, ◌-◌, ◌*◌, ◌^◌, ◌≤◌, ◌<◌, ◌⊎◌, IsTrue, ◌↔◌};
+ghost use Rattle.block_index.specs.Places.{IsInside, deepest, most_trees};
+ghost use Rattle.block_index.specs.Touching.{MeetsOnAxis, Touches, width};
+
+use crate::axis::{Stretch, stretches_meet};
 use crate::domain::{Axis, Domain};
 use crate::place::{DEEPEST, Place};
 
 /// How wide a tree is in units of level 6.
-const TREE_WIDTH: u16 = 64;
-
-/// A closed interval of an axis in units of level 6.
-#[derive(Clone, Copy)]
-struct Span {
-    start: u16,
-    width: u16,
-}
-
-impl Span {
-    /// Where the cube at a coordinate of a level lies along an axis.
-    fn of(coordinate: u16, level: u8) -> Span
-        requires level { level ≤ 6 }
-        requires coordinate { coordinate < 16 * 2 ^ level }
-        ensures start { result.start ≡ coordinate * width level }
-        ensures width { result.width ≡ width level }
-        ensures end { result.start + result.width ≤ 1024 }
-    {
-        let width = 1 << (DEEPEST - level);
-        Span {
-            start: coordinate * width,
-            width,
-        }
-    }
-
-    /// The interval moved up by a length.
-    fn moved(self, by: u16) -> Span
-        requires { self.start + by < 2 ^ 16 }
-        ensures { result ≡ record { start = self.start + by; width = self.width } }
-    {
-        Span {
-            start: self.start + by,
-            width: self.width,
-        }
-    }
-
-    /// Whether two intervals share a point.
-    fn meets(self, other: Span) -> bool
-        requires this_end { self.start + self.width < 2 ^ 16 }
-        requires other_end { other.start + other.width < 2 ^ 16 }
-        ensures { IsTrue result ↔ Meets self.start self.width other.start other.width }
-    {
-        self.start <= other.start + other.width && other.start <= self.start + self.width
-    }
-}
+const TREE_WIDTH: u32 = 1 << DEEPEST;
 
 impl Axis {
-    /// Whether two intervals of the axis share a point, on a periodic axis also across its two ends.
-    fn spans_meet(self, a: Span, b: Span) -> bool
-        requires trees { self.trees ≤ 16 }
+    /// Whether two stretches of the axis share a point, on a periodic axis also across its two ends.
+    fn stretches_meet(self, a: Stretch, b: Stretch) -> bool
+        requires trees { self.trees ≤ most_trees }
         requires a_end { a.start + a.width ≤ 1024 }
         requires b_end { b.start + b.width ≤ 1024 }
-        ensures { IsTrue result ↔ MeetsOnAxis self.trees self.periodic a.start a.width b.start b.width }
+        ensures meet { IsTrue result ↔ MeetsOnAxis self.trees self.periodic a.start a.width b.start b.width }
     {
-        let length = self.trees * TREE_WIDTH;
-        a.meets(b) || (self.periodic && (a.moved(length).meets(b) || a.meets(b.moved(length))))
+        stretches_meet(u32::from(self.trees) * TREE_WIDTH, self.periodic, a, b)
+    }
+}
+
+/// Where the place at a coordinate of a level lies along an axis, in units of level 6.
+fn stretch_of(coordinate: u16, level: u8) -> Stretch
+    requires level { level ≤ deepest }
+    requires coordinate { coordinate < most_trees * 2 ^ level }
+    ensures start { result.start ≡ coordinate * width level }
+    ensures width { result.width ≡ width level }
+    ensures end { result.start + result.width ≤ 1024 }
+{
+    let width = 1 << (DEEPEST - level);
+    Stretch {
+        start: u32::from(coordinate) * width,
+        width,
     }
 }
 
@@ -74,7 +47,7 @@ pub fn touch(a: Place, b: Place, domain: &Domain) -> bool
 {
     let [x, y, z] = domain.axes();
     a != b
-        && x.spans_meet(Span::of(a.x(), a.level()), Span::of(b.x(), b.level()))
-        && y.spans_meet(Span::of(a.y(), a.level()), Span::of(b.y(), b.level()))
-        && z.spans_meet(Span::of(a.z(), a.level()), Span::of(b.z(), b.level()))
+        && x.stretches_meet(stretch_of(a.x(), a.level()), stretch_of(b.x(), b.level()))
+        && y.stretches_meet(stretch_of(a.y(), a.level()), stretch_of(b.y(), b.level()))
+        && z.stretches_meet(stretch_of(a.z(), a.level()), stretch_of(b.z(), b.level()))
 }

@@ -18,23 +18,23 @@ IsStrictlyIncreasing-push xs y up below k within =
           omega (arith, here, ap (λ i. get_or (xs ++ y ∷ []) i 0) last, get_or-append_seam xs y [] 0, below (get_or xs k 0) (Contains-get_or xs k 0 (omega arith)))
     ]
 
-cons_cases : (x : ℕ) (xs : List ℕ) (j : ℕ) → Contains (x ∷ xs) j → (x ≡ j) ⊎ Contains xs j
+pub cons_cases : (x : ℕ) (xs : List ℕ) (j : ℕ) → Contains (x ∷ xs) j → (x ≡ j) ⊎ Contains xs j
 cons_cases x xs j (zero, l, e) = inl e
 cons_cases x xs j (suc k, l, e) = inr (k, omega arith, e)
 
-head_in : (x : ℕ) (xs : List ℕ) → Contains (x ∷ xs) x
+pub head_in : (x : ℕ) (xs : List ℕ) → Contains (x ∷ xs) x
 head_in x xs = (zero, omega arith, refl)
 
-tail_in : (x : ℕ) (xs : List ℕ) (j : ℕ) → Contains xs j → Contains (x ∷ xs) j
+pub tail_in : (x : ℕ) (xs : List ℕ) (j : ℕ) → Contains xs j → Contains (x ∷ xs) j
 tail_in x xs j h = (suc h.0, let l : suc h.0 < length (x ∷ xs) = omega (arith, h.1) in l, h.2)
 
-tail_up : (x : ℕ) (xs : List ℕ) → IsStrictlyIncreasing (x ∷ xs) → IsStrictlyIncreasing xs
+pub tail_up : (x : ℕ) (xs : List ℕ) → IsStrictlyIncreasing (x ∷ xs) → IsStrictlyIncreasing xs
 tail_up x xs up k l =
     let next : suc k + 1 ≡ suc (k + 1) = omega arith in
     omega (arith, up (suc k) (omega arith), ap (λ i. get_or (x ∷ xs) i 0) next)
 
 -- the first is below all others
-above_head : (x : ℕ) (xs : List ℕ) → IsStrictlyIncreasing (x ∷ xs) → (j : ℕ) → Contains xs j → x < j
+pub above_head : (x : ℕ) (xs : List ℕ) → IsStrictlyIncreasing (x ∷ xs) → (j : ℕ) → Contains xs j → x < j
 above_head x [] up j h = absurd (omega (arith, h.1))
 above_head x (y ∷ ys) up j h =
     let first : x < y = up zero (omega arith) in

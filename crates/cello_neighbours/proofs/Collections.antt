@@ -10,20 +10,21 @@ use Rattle.leaf_set.specs.Meshes.{IsMesh}
 use Rattle.leaf_set.proofs.Containment.{child_of-child_number, child_number-child_of, child_number_below}
 use Rattle.leaf_set.proofs.MeshFacts.{leaves_distinct, leaves_spaced}
 use Rattle.leaf_set.proofs.Spots.{start-child_of, stop-child_of, child_width, child_width-pos}
-use Rattle.cello_neighbours.specs.Directions.{Steps, IsDirection}
+use Rattle.block_index.specs.Beyond.{Offset}
+use Rattle.cello_neighbours.specs.Directions.{IsDirection}
 use Rattle.cello_neighbours.specs.Covers.{AreAgainst, is_near}
 use Rattle.cello_neighbours.proofs.AscendingLists.{IsStrictlyIncreasing-push}
 use Rattle.cello_neighbours.proofs.NearChildren.{is_near_number, is_near-child_of, LiesAgainst-child_of, near_below, near_below-zero, near_below-next, near_below-all, near_below-room}
 use Rattle.cello_neighbours.proofs.NearSides.{Contains-LiesAgainst}
 
 -- js are the leaves among the children numbered below k that lie on the near side
-pub record Collects (mesh : List Cube) (d : Steps) (q : Cube) (k : ℕ) (js : List ℕ) : Type 0 where
+pub record Collects (mesh : List Cube) (d : Offset) (q : Cube) (k : ℕ) (js : List ℕ) : Type 0 where
   pub ascending : IsStrictlyIncreasing js
   pub near : (j : ℕ) → Contains js j → (i : ℕ) × (i < k) × (slice_get mesh j ≡ Some (child_of q i)) × (is_near d (child_of q i) ≡ true)
   pub all : (i : ℕ) → i < k → is_near d (child_of q i) ≡ true → (j : ℕ) × (slice_get mesh j ≡ Some (child_of q i)) × Contains js j
   pub count : length js ≡ near_below d k
 
-pub Collects-none : (mesh : List Cube) (d : Steps) (q : Cube) → Collects mesh d q 0 []
+pub Collects-none : (mesh : List Cube) (d : Offset) (q : Cube) → Collects mesh d q 0 []
 Collects-none mesh d q = record {
   ascending = λ k h. absurd (omega arith);
   near = λ j h. absurd (let l = h.1 in omega arith);
@@ -31,7 +32,7 @@ Collects-none mesh d q = record {
   count = omega (arith, near_below-zero d);
 }
 
-module _ (mesh : List Cube) (d : Steps) (q : Cube) (k : ℕ) (js : List ℕ) (h : Collects mesh d q k js) (l : k < 8) where
+module _ (mesh : List Cube) (d : Offset) (q : Cube) (k : ℕ) (js : List ℕ) (h : Collects mesh d q k js) (l : k < 8) where
   pub Collects-skip : is_near d (child_of q k) ≡ false → Collects mesh d q (k + 1) js
   Collects-skip e =
       let f : is_near_number d k ≡ false = sym (is_near-child_of d q k l) ∙ e in
@@ -92,7 +93,7 @@ module _ (mesh : List Cube) (d : Steps) (q : Cube) (k : ℕ) (js : List ℕ) (h 
         }
 
 -- once all eight are looked at
-pub AreAgainst-Collects : (grid : Grid) (mesh : List Cube) (d : Steps) (q : Cube) (js : List ℕ) → IsDomain grid → IsMesh grid mesh → IsDirection d → Collects mesh d q 8 js → AreAgainst mesh d q js
+pub AreAgainst-Collects : (grid : Grid) (mesh : List Cube) (d : Offset) (q : Cube) (js : List ℕ) → IsDomain grid → IsMesh grid mesh → IsDirection d → Collects mesh d q 8 js → AreAgainst mesh d q js
 AreAgainst-Collects grid mesh d q js g m w h = record {
   ascending = h.ascending;
   against = λ j c. let o = h.near j c in (child_of q o.0, o.2, LiesAgainst-child_of d q o.0 o.1 o.3);

@@ -11,23 +11,24 @@ use Rattle.leaf_set.proofs.Boxes.{BoxesMeet, BoxesMeet-sym, BoxesMeet-Contains, 
 use Rattle.leaf_set.proofs.Containment.{Contains as Holds, Contains-covers, Contains-self, Contains-trans, Contains-between}
 use Rattle.leaf_set.proofs.MeshFacts.{leaves_apart, leaves_distinct}
 use Rattle.leaf_set.proofs.Spots.{finest_limit}
-use Rattle.cello_neighbours.specs.Directions.{Steps, IsDirection, IsBeyond}
+use Rattle.block_index.specs.Beyond.{Offset, IsBeyond}
+use Rattle.cello_neighbours.specs.Directions.{IsDirection}
 use Rattle.cello_neighbours.specs.Covers.{LiesAgainst, AreAgainst, IsCoarserOver, IsCoverFrom, IsCover, leaves_of}
 use Rattle.cello_neighbours.specs.declared.covers.Cover.{Cover}
 use Rattle.cello_neighbours.specs.declared.covers.Cover.TheVariants.{Same, Coarser, Finer, Outside}
-use Rattle.cello_neighbours.proofs.PlacesBeyond.{IsBeyond-one, IsInside-IsBeyond}
+use Rattle.block_index.proofs.Beyond.{IsBeyond-one, IsInside-IsBeyond}
 use Rattle.cello_neighbours.proofs.NearSides.{Contains-LiesAgainst, BoxesMeet-IsBeyond, BoxesMeet-LiesAgainst}
 use Rattle.cello_neighbours.proofs.NearChildren.{near_children-some}
 use Rattle.cello_neighbours.proofs.AscendingLists.{same_ascending}
 
 -- of a list of finer leaves there is one at least
-some_against : (mesh : List Cube) (d : Steps) (q : Cube) (js : List ℕ) → AreAgainst mesh d q js → (j : ℕ) × (c : Cube) × (slice_get mesh j ≡ Some c) × LiesAgainst d q c
+some_against : (mesh : List Cube) (d : Offset) (q : Cube) (js : List ℕ) → AreAgainst mesh d q js → (j : ℕ) × (c : Cube) × (slice_get mesh j ≡ Some c) × LiesAgainst d q c
 some_against mesh d q js h =
     let l : 0 < length js = omega (arith, h.count, near_children-some d) in
     let o = h.against (get_or js 0 0) (Contains-get_or js 0 0 l) in
     (get_or js 0 0, o.0, o.1, o.2)
 
-same_against : (mesh : List Cube) (d : Steps) (q : Cube) (js ks : List ℕ) → AreAgainst mesh d q js → AreAgainst mesh d q ks → js ≡ ks
+same_against : (mesh : List Cube) (d : Offset) (q : Cube) (js ks : List ℕ) → AreAgainst mesh d q js → AreAgainst mesh d q ks → js ≡ ks
 same_against mesh d q js ks h k =
     same_ascending js ks h.ascending k.ascending (λ j c. let o = h.against j c in k.all j o.0 o.1 o.2) (λ j c. let o = k.against j c in h.all j o.0 o.1 o.2)
 
@@ -42,7 +43,7 @@ module _ (grid : Grid) (mesh : List Cube) (g : IsDomain grid) (m : IsMesh grid m
       omega (arith, ap (λ (p : Cube). p.level) e)
 
   -- a leaf that contains q holds no other leaf in q
-  over_against : (d : Steps) (q c : Cube) (n j : ℕ) (js : List ℕ) → slice_get mesh j ≡ Some c → Holds n c q → AreAgainst mesh d q js → ⊥
+  over_against : (d : Offset) (q c : Cube) (n j : ℕ) (js : List ℕ) → slice_get mesh j ≡ Some c → Holds n c q → AreAgainst mesh d q js → ⊥
   over_against d q c n j js s k h =
       let o = some_against mesh d q js h in
       let down = Contains-trans n 1 c q o.1 k (Contains-LiesAgainst d q o.1 o.3) in
@@ -71,7 +72,7 @@ module _ (grid : Grid) (mesh : List Cube) (g : IsDomain grid) (m : IsMesh grid m
 
   -- ---- covers
 
-  module _ (a : Cube) (d : Steps) where
+  module _ (a : Cube) (d : Offset) where
     -- the second place is the first
     at : (P : Cube → Type 0) (p q : Cube) → IsBeyond grid a d p → IsBeyond grid a d q → P p → P q
     at P p q h k = subst P (IsBeyond-one grid a p q d h k)
@@ -104,14 +105,14 @@ module _ (grid : Grid) (mesh : List Cube) (g : IsDomain grid) (m : IsMesh grid m
     one_from Outside (Finer js) none (q, k, t) = absurd (none q k)
     one_from Outside Outside none nor = refl
 
-  pub IsCover-one : (b : ℕ) (d : Steps) (cover other : Cover) → IsCover grid mesh b d cover → IsCover grid mesh b d other → cover ≡ other
+  pub IsCover-one : (b : ℕ) (d : Offset) (cover other : Cover) → IsCover grid mesh b d cover → IsCover grid mesh b d other → cover ≡ other
   IsCover-one b d cover other h k =
       let e : h.0 ≡ k.0 = same_Some h.0 k.0 (sym h.1 ∙ k.1) in
       one_from k.0 d cover other (subst (λ a. IsCoverFrom grid mesh a d cover) e h.2) k.2
 
   -- ---- touching
 
-  module _ (b : ℕ) (a : Cube) (d : Steps) (s : slice_get mesh b ≡ Some a) (w : IsDirection d) where
+  module _ (b : ℕ) (a : Cube) (d : Offset) (s : slice_get mesh b ≡ Some a) (w : IsDirection d) where
     low : a.level ≤ 6
     low = finest_limit grid a g (m.inside b a s)
 
@@ -134,7 +135,7 @@ module _ (grid : Grid) (mesh : List Cube) (g : IsDomain grid) (m : IsMesh grid m
         (o.0, o.1, BoxesMeet-LiesAgainst grid a q d (m.inside b a s) w h o.0 (finest_limit grid o.0 g (m.inside j o.0 o.1)) o.2)
     names_meet j Outside none n = absurd (let l = n.1 in omega arith)
 
-  pub Touches-IsCover : (b j : ℕ) (a c : Cube) (d : Steps) (cover : Cover) → IsDirection d → IsCover grid mesh b d cover → Contains (leaves_of cover) j → (j ≡ b → ⊥)
+  pub Touches-IsCover : (b j : ℕ) (a c : Cube) (d : Offset) (cover : Cover) → IsDirection d → IsCover grid mesh b d cover → Contains (leaves_of cover) j → (j ≡ b → ⊥)
       → slice_get mesh b ≡ Some a → slice_get mesh j ≡ Some c → Touches grid a c
   Touches-IsCover b j a c d cover w h n apart s t =
       let e : h.0 ≡ a = same_Some h.0 a (sym h.1 ∙ s) in

@@ -3,7 +3,7 @@
 use Rattle.std.specs.Prelude.{◌≡◌, ℕ, zero, suc, ◌+◌, ◌*◌, ◌%◌, ◌<◌, Bool, true, ◌&&◌, ◌==◌, List, [], ◌∷◌, Some, length, slice_get, Contains, ℤ, pos, negsuc}
 use Rattle.std.specs.List.Sorted.{IsStrictlyIncreasing}
 use Rattle.block_index.specs.Places.{Cube, Grid, parent_of, covers}
-use Rattle.cello_neighbours.specs.Directions.{Steps, IsBeyond}
+use Rattle.block_index.specs.Beyond.{Offset, IsBeyond}
 use Rattle.cello_neighbours.specs.declared.covers.Cover.{Cover}
 use Rattle.cello_neighbours.specs.declared.covers.Cover.TheVariants.{Same, Coarser, Finer, Outside}
 
@@ -21,21 +21,25 @@ near_halves (pos (suc n)) = 1
 near_halves (negsuc n) = 1
 
 -- a place lies on the side of its parent that a step in direction d comes in by
-abbrev pub is_near : Steps → Cube → Bool
+abbrev pub is_near : Offset → Cube → Bool
 is_near d c = is_near_half d.x (c.x % 2) && is_near_half d.y (c.y % 2) && is_near_half d.z (c.z % 2)
 
+-- the most finer leaves that lie against a leaf on one side, at a face
+abbrev pub most_against : ℕ
+most_against = 4
+
 -- how many of the eight children of a place that are: 4, 2 or 1 for steps along one, two or three axes
-abbrev pub near_children : Steps → ℕ
+abbrev pub near_children : Offset → ℕ
 near_children d = near_halves d.x * near_halves d.y * near_halves d.z
 
 -- c is a child of q on the side that a step in direction d comes in by
-pub record LiesAgainst (d : Steps) (q c : Cube) : Type 0 where
+pub record LiesAgainst (d : Offset) (q c : Cube) : Type 0 where
   pub finer : c.level ≡ q.level + 1
   pub parent : parent_of c ≡ q
   pub near : is_near d c ≡ true
 
 -- `js` are the positions of all leaves that are such children of q, ascending, and no such child is missing.
-pub record AreAgainst (mesh : List Cube) (d : Steps) (q : Cube) (js : List ℕ) : Type 0 where
+pub record AreAgainst (mesh : List Cube) (d : Offset) (q : Cube) (js : List ℕ) : Type 0 where
   pub ascending : IsStrictlyIncreasing js
   pub against : (j : ℕ) → Contains js j → (c : Cube) × (slice_get mesh j ≡ Some c) × LiesAgainst d q c
   pub all : (j : ℕ) (c : Cube) → slice_get mesh j ≡ Some c → LiesAgainst d q c → Contains js j
@@ -48,14 +52,14 @@ pub record IsCoarserOver (mesh : List Cube) (q : Cube) (j : ℕ) (c : Cube) : Ty
   pub covers : covers c q ≡ true
 
 -- what covers the place one step from the place a
-abbrev pub IsCoverFrom : Grid → List Cube → Cube → Steps → Cover → Type 0
+abbrev pub IsCoverFrom : Grid → List Cube → Cube → Offset → Cover → Type 0
 IsCoverFrom grid mesh a d (Same j) = (q : Cube) × IsBeyond grid a d q × (slice_get mesh j ≡ Some q)
 IsCoverFrom grid mesh a d (Coarser j) = (q : Cube) × IsBeyond grid a d q × ((c : Cube) × IsCoarserOver mesh q j c)
 IsCoverFrom grid mesh a d (Finer js) = (q : Cube) × IsBeyond grid a d q × AreAgainst mesh d q js
 IsCoverFrom grid mesh a d Outside = (q : Cube) → IsBeyond grid a d q → ⊥
 
 -- what covers the place one step from the leaf at b
-abbrev pub IsCover : Grid → List Cube → ℕ → Steps → Cover → Type 0
+abbrev pub IsCover : Grid → List Cube → ℕ → Offset → Cover → Type 0
 IsCover grid mesh b d cover = (a : Cube) × (slice_get mesh b ≡ Some a) × IsCoverFrom grid mesh a d cover
 
 -- the leaves that a cover names

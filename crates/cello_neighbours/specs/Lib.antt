@@ -1,3 +1,4 @@
-pub mod Shell
+-- The definitions of this crate.
 pub mod Directions
 pub mod Covers
+pub mod Lemmas

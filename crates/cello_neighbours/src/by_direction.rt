@@ -1,11 +1,13 @@
+//! What covers the place beside a leaf in a direction.
+
 ghost use Rattle.std.specs.Prelude.{◌≡◌, ℕ, ◌+◌, ◌<◌, ◌≤◌, true, Some, IfSome, IsNone, length, slice_get};
-ghost use Rattle.block_index.specs.Places.{Cube, IsInside, child_of, parent_of};
+ghost use Rattle.block_index.specs.Places.{Cube, IsInside, child_of, parent_of, deepest};
 ghost use Rattle.leaf_set.specs.Meshes.{IsLeaf};
 ghost use Rattle.leaf_set.specs.Tiling.{IsTiling};
-ghost use Rattle.cello_neighbours.specs.Directions.{IsStep, IsDirection};
+ghost use Rattle.block_index.specs.Axes.{IsUnitStep};
+ghost use Rattle.cello_neighbours.specs.Directions.{IsDirection};
 ghost use Rattle.cello_neighbours.specs.Covers.{AreAgainst, IsCover, is_near, is_near_half};
 
-use crate::beyond::place_beyond;
 use crate::covers::{Cover, FinerList};
 use crate::directions::Direction;
 use block_index::Place;
@@ -13,10 +15,10 @@ use leaf_set::LeafSet;
 
 /// What covers the place one step from the leaf at `b`, on a periodic axis across its ends too.
 pub fn in_direction(set: &LeafSet, b: usize, d: Direction) -> Cover
-    requires { b < length set.now.places }
+    requires leaf { b < length set.now.places }
     ensures cover { IsCover set.now.grid set.now.places b d result }
 {
-    let Some(beyond) = place_beyond(set.domain(), set.place(b), d) else {
+    let Some(beyond) = d.beyond(set.place(b), set.domain()) else {
         return Cover::Outside;
     };
     if let Some(j) = set.position(beyond) {
@@ -40,7 +42,7 @@ fn coarser_over(set: &LeafSet, place: Place) -> Option<usize>
 fn leaves_against(set: &LeafSet, place: Place, d: Direction) -> FinerList
     requires tiles { IsTiling set.now }
     requires direction { IsDirection d }
-    requires room { place.level < 6 }
+    requires room { place.level < deepest }
     requires leaves { (k : ℕ) → k < 8 → is_near d (child_of place k) ≡ true → IsLeaf set.now.places (child_of place k) }
     ensures against { AreAgainst set.now.places d place result }
 {
@@ -63,7 +65,7 @@ fn is_near(d: Direction, k: u8) -> bool
 
 /// Whether a step comes in by the lower half (0) or the upper half (1) of the place that it goes to.
 fn is_near_half(step: i8, half: u8) -> bool
-    requires step { IsStep step }
+    requires step { IsUnitStep step }
     requires half { half < 2 }
     ensures near { result ≡ is_near_half step half }
 {

@@ -1,8 +1,14 @@
+//! Covers: what stands at a place beside a leaf.
+
 ghost use Rattle.std.specs.Prelude.{◌≡◌, ℕ, ◌<◌, ◌≤◌, [], ◌∷◌, ◌++◌, length, Contains};
 ghost use Rattle.std.specs.List.Sorted.{IsStrictlyIncreasing};
+ghost use Rattle.cello_neighbours.specs.Covers.{most_against};
 
 use arrayvec::ArrayVec;
 use std::marker::Model;
+
+/// The most finer leaves that lie against a leaf on one side: those at a face.
+const MOST_AGAINST: usize = 4;
 
 /// What covers the place one step from a leaf. Leaves are given by their positions in the leaf set.
 #[derive(Drop)]
@@ -21,7 +27,7 @@ pub enum Cover {
 /// at an edge, 1 at a corner.
 #[derive(Drop)]
 pub struct FinerList {
-    leaves: ArrayVec<u32, 4>,
+    leaves: ArrayVec<u32, MOST_AGAINST>,
 }
 
 impl Model for FinerList {
@@ -48,7 +54,7 @@ impl FinerList {
     /// How many leaves there are.
     pub fn len(&self) -> usize
         ensures len { result ≡ length self.now }
-        ensures few { length self.now ≤ 4 }
+        ensures few { length self.now ≤ most_against }
     {
         self.leaves.len()
     }
@@ -56,7 +62,7 @@ impl FinerList {
     /// The positions of the leaves.
     pub fn items(&self) -> &[u32]
         ensures items { result.now ≡ self.now }
-        ensures few { length self.now ≤ 4 }
+        ensures few { length self.now ≤ most_against }
         ensures ascending { IsStrictlyIncreasing self.now }
     {
         self.leaves.as_slice()
@@ -64,7 +70,7 @@ impl FinerList {
 
     /// Puts a position behind the others.
     pub(crate) fn push(&mut self, leaf: u32)
-        requires room { length self.old < 4 }
+        requires room { length self.old < most_against }
         requires later { (j : ℕ) → Contains self.old j → j < leaf }
         ensures items { self.new ≡ self.old ++ leaf ∷ [] }
     {

@@ -1,23 +1,20 @@
 //! The leaves around a leaf: which leaves of a mesh touch it, and what covers the place beside it in a direction.
 //!
-//! They are found by look-ups of places and not by going through the leaf set, and no call takes memory. The
-//! definition of touching stands in `block_index`, that of the list of touching leaves in `leaf_set`, and those of
-//! the cubes around a leaf, of directions and of covers in `specs/`. Laws about covers are the public functions of
-//! `laws`, whose contracts are the laws.
+//! They are found by look-ups of places, direction by direction, and not by going through the leaf set. No call takes
+//! memory. The definitions of touching and of the place one step away stand in `block_index`, that of the list of
+//! touching leaves in `leaf_set`, and those of directions and of covers in `specs/`. Laws about covers are the public
+//! functions of `laws`, whose contracts are the laws.
 #![tactic(auto)]
 
-mod beyond;
 mod by_direction;
 mod covers;
 #[cfg(test)]
 mod direction_tests;
 mod directions;
 mod laws;
-mod look_up;
 #[cfg(test)]
 mod mesh_tests;
 mod neighbours;
-mod shell;
 #[cfg(test)]
 mod tests;
 mod touching_list;

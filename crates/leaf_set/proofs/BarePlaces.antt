@@ -8,7 +8,7 @@ use Rattle.block_index.specs.Order.{rank, IsBefore}
 use Rattle.block_index.proofs.Ranks.{same_from_rank}
 use Rattle.leaf_set.specs.Meshes.{IsMesh, cover_count}
 use Rattle.leaf_set.specs.LeafFaults.{LiesOutside, Overlaps, IsBare, IsFirstBare, StandInOrder, LieInside, LieApart, CoverAll}
-use Rattle.leaf_set.specs.Stretches.{beginning, ending, IsFirstFrom, AreNoneFrom}
+use Rattle.leaf_set.specs.Lemmas.Stretches.{beginning, ending, IsFirstFrom, AreNoneFrom}
 use Rattle.leaf_set.proofs.Containment.{Contains, Contains-covers, covers-Contains, Contains-same, Contains-self}
 use Rattle.leaf_set.proofs.Counts.{count-none, count-some, count-found}
 use Rattle.leaf_set.proofs.InOrder.{in_order}

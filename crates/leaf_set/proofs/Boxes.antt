@@ -3,43 +3,10 @@ use Rattle.std.proofs.Common.{◌≡◌, ℕ, ◌+◌, ◌-◌, ◌*◌, ◌/◌
 use Rattle.std.proofs.lemmas.Nat.{pow-add, div-add-mod', mod_below}
 use Rattle.std.proofs.lemmas.Bool.{cases_lt}
 use Rattle.block_index.specs.Places.{Cube, Grid, child_of, covers}
-use Rattle.block_index.specs.Touching.{width, Meets, MeetsOnAxis, Touches}
+use Rattle.block_index.specs.Touching.{width, MeetsOnAxis, Touches}
+pub use Rattle.block_index.proofs.Meetings.{BoxesMeet, BoxesMeet-Touches, Touches-BoxesMeet, BoxesMeet-sym, Touches-sym}
+use Rattle.block_index.proofs.Meetings.{MeetsAround-grow, MeetsAround-half}
 use Rattle.leaf_set.proofs.Containment.{Contains, Contains-self, Contains-covers, covers-Contains}
-
--- ---- along one axis
-
-Meets-sym : (a w c v : ℕ) → Meets a w c v → Meets c v a w
-Meets-sym a w c v h = record { left = h.right; right = h.left }
-
-MeetsOnAxis-sym : (trees : ℕ) (wraps : Bool) (a w c v : ℕ) → MeetsOnAxis trees wraps a w c v → MeetsOnAxis trees wraps c v a w
-MeetsOnAxis-sym trees wraps a w c v (inl h) = inl (Meets-sym a w c v h)
-MeetsOnAxis-sym trees wraps a w c v (inr (t, inl h)) = inr (t, inr (Meets-sym (a + trees * 64) w c v h))
-MeetsOnAxis-sym trees wraps a w c v (inr (t, inr h)) = inr (t, inl (Meets-sym a w (c + trees * 64) v h))
-
-Meets-grow : (a w b u c v : ℕ) → b ≤ a → a + w ≤ b + u → Meets a w c v → Meets b u c v
-Meets-grow a w b u c v l r h = record { left = omega (arith, h.left); right = omega (arith, h.right) }
-
--- an interval within a longer one meets no more than that does
-MeetsOnAxis-grow : (trees : ℕ) (wraps : Bool) (a w b u c v : ℕ) → b ≤ a → a + w ≤ b + u → MeetsOnAxis trees wraps a w c v → MeetsOnAxis trees wraps b u c v
-MeetsOnAxis-grow trees wraps a w b u c v l r (inl h) = inl (Meets-grow a w b u c v l r h)
-MeetsOnAxis-grow trees wraps a w b u c v l r (inr (t, inl h)) =
-    inr (t, inl (Meets-grow (a + trees * 64) w (b + trees * 64) u c v (omega arith) (omega arith) h))
-MeetsOnAxis-grow trees wraps a w b u c v l r (inr (t, inr h)) = inr (t, inr (Meets-grow a w b u (c + trees * 64) v l r h))
-
-Meets-half : (a w c v : ℕ) → Meets a (2 * w) c v → (b : ℕ) × (b < 2) × Meets (a + b * w) w c v
-Meets-half a w c v h =
-    elim (cases_lt (a + w) c) [
-      | inl less ↦ (1, omega arith, record { left = omega arith; right = omega (arith, h.right) })
-      | inr more ↦ (0, omega arith, record { left = omega (arith, h.left); right = omega arith })
-    ]
-
--- what an interval meets, one of its halves meets
-MeetsOnAxis-half : (trees : ℕ) (wraps : Bool) (a w c v : ℕ) → MeetsOnAxis trees wraps a (2 * w) c v → (b : ℕ) × (b < 2) × MeetsOnAxis trees wraps (a + b * w) w c v
-MeetsOnAxis-half trees wraps a w c v (inl h) = let m = Meets-half a w c v h in (m.0, m.1, inl m.2)
-MeetsOnAxis-half trees wraps a w c v (inr (t, inl h)) =
-    let m = Meets-half (a + trees * 64) w c v h in
-    (m.0, m.1, inr (t, inl (subst (λ n. Meets n w c v) (let e : a + trees * 64 + m.0 * w ≡ a + m.0 * w + trees * 64 = omega arith in e) m.2)))
-MeetsOnAxis-half trees wraps a w c v (inr (t, inr h)) = let m = Meets-half a w (c + trees * 64) v h in (m.0, m.1, inr (t, inr m.2))
 
 -- ---- widths
 
@@ -59,39 +26,16 @@ within_up n m p u w e f h =
 axis_up : (trees : ℕ) (wraps : Bool) (n m d l k c v : ℕ) → n / 2 ^ d ≡ m → k ≡ l + d → k ≤ 6 → MeetsOnAxis trees wraps (n * width k) (width k) c v → MeetsOnAxis trees wraps (m * width l) (width l) c v
 axis_up trees wraps n m d l k c v e f h =
     let w = within_up n m (2 ^ d) (width l) (width k) e (width_up l k d f h) (pow_pos d) in
-    MeetsOnAxis-grow trees wraps (n * width k) (width k) (m * width l) (width l) c v w.0 w.1
+    MeetsAround-grow (trees * 64) wraps (n * width k) (width k) (m * width l) (width l) c v w.0 w.1
 
 axis_half : (trees : ℕ) (wraps : Bool) (n l c v : ℕ) → l + 1 ≤ 6 → MeetsOnAxis trees wraps (n * width l) (width l) c v → (b : ℕ) × (b < 2) × MeetsOnAxis trees wraps ((2 * n + b) * width (l + 1)) (width (l + 1)) c v
 axis_half trees wraps n l c v h m =
     let e : width l ≡ 2 * width (l + 1) = width_up l (l + 1) 1 refl h in
-    let s = MeetsOnAxis-half trees wraps (n * width l) (width (l + 1)) c v (subst (λ w. MeetsOnAxis trees wraps (n * width l) w c v) e m) in
+    let s = MeetsAround-half (trees * 64) wraps (n * width l) (width (l + 1)) c v (subst (λ w. MeetsOnAxis trees wraps (n * width l) w c v) e m) in
     let f : n * width l + s.0 * width (l + 1) ≡ (2 * n + s.0) * width (l + 1) = omega (arith, ap (λ w. n * w) e) in
     (s.0, s.1, subst (λ a. MeetsOnAxis trees wraps a (width (l + 1)) c v) f s.2)
 
 -- ---- boxes
-
--- the closed boxes of a and c share a point, on periodic axes after a shift by the length of the domain
-pub record BoxesMeet (grid : Grid) (a c : Cube) : Type 0 where
-  pub on_x : MeetsOnAxis grid.trees_x grid.wraps_x (a.x * width a.level) (width a.level) (c.x * width c.level) (width c.level)
-  pub on_y : MeetsOnAxis grid.trees_y grid.wraps_y (a.y * width a.level) (width a.level) (c.y * width c.level) (width c.level)
-  pub on_z : MeetsOnAxis grid.trees_z grid.wraps_z (a.z * width a.level) (width a.level) (c.z * width c.level) (width c.level)
-
-pub BoxesMeet-Touches : (grid : Grid) (a c : Cube) → Touches grid a c → BoxesMeet grid a c
-BoxesMeet-Touches grid a c h = record { on_x = h.on_x; on_y = h.on_y; on_z = h.on_z }
-
-pub Touches-BoxesMeet : (grid : Grid) (a c : Cube) → (a ≡ c → ⊥) → BoxesMeet grid a c → Touches grid a c
-Touches-BoxesMeet grid a c n h = record { apart = n; on_x = h.on_x; on_y = h.on_y; on_z = h.on_z }
-
-pub BoxesMeet-sym : (grid : Grid) (a c : Cube) → BoxesMeet grid a c → BoxesMeet grid c a
-BoxesMeet-sym grid a c h = record {
-  on_x = MeetsOnAxis-sym grid.trees_x grid.wraps_x (a.x * width a.level) (width a.level) (c.x * width c.level) (width c.level) h.on_x;
-  on_y = MeetsOnAxis-sym grid.trees_y grid.wraps_y (a.y * width a.level) (width a.level) (c.y * width c.level) (width c.level) h.on_y;
-  on_z = MeetsOnAxis-sym grid.trees_z grid.wraps_z (a.z * width a.level) (width a.level) (c.z * width c.level) (width c.level) h.on_z;
-}
-
-pub Touches-sym : (grid : Grid) (a c : Cube) → Touches grid a c → Touches grid c a
-Touches-sym grid a c h =
-    Touches-BoxesMeet grid c a (λ e. h.apart (sym e)) (BoxesMeet-sym grid a c (BoxesMeet-Touches grid a c h))
 
 -- what meets a place meets each place that contains it
 pub BoxesMeet-Contains : (grid : Grid) (d : ℕ) (a b c : Cube) → Contains d a b → b.level ≤ 6 → BoxesMeet grid b c → BoxesMeet grid a c

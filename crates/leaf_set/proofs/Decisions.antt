@@ -4,7 +4,8 @@ use Rattle.std.specs.Prelude.{IsTrue}
 use Rattle.std.proofs.lemmas.Bool.{cases_lt, cases_eq, cases_Bool, both_ways}
 use Rattle.std.proofs.lemmas.Option.{same_Some, none-some}
 use Rattle.block_index.specs.Places.{Cube, Grid, parent_of}
-use Rattle.block_index.specs.Touching.{width, Meets, MeetsOnAxis, Touches}
+use Rattle.block_index.specs.Touching.{width, MeetsOnAxis, Touches}
+use Rattle.block_index.specs.Axes.{Meets}
 use Rattle.leaf_set.specs.LevelRules.{AreSiblings}
 use Rattle.leaf_set.proofs.Leaves.{cube_cases}
 

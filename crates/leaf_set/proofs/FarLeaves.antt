@@ -5,12 +5,14 @@ use Rattle.std.proofs.lemmas.Bool.{cases_lt, false≢true}
 use Rattle.std.proofs.lemmas.Nat.{mul-le}
 use Rattle.std.proofs.lemmas.Option.{same_Some, slice_get_read}
 use Rattle.block_index.specs.Places.{Cube, Grid, IsDomain, IsInside, IsPlace, parent_of, covers}
+use Rattle.block_index.specs.Axes.{IsNext}
 use Rattle.block_index.specs.Touching.{Touches}
+use Rattle.block_index.proofs.Beyond.{IsNext-none_self}
 use Rattle.leaf_set.specs.Meshes.{IsLeaf, IsMesh}
 use Rattle.leaf_set.specs.MeshLaws.{HasLeavesApart}
-use Rattle.leaf_set.specs.JumpSearch.{IsStep, IsAroundCorner, IsFarOver, IsFarAbove}
+use Rattle.leaf_set.specs.Lemmas.JumpSearch.{corner_step, IsAroundCorner, IsFarOver, IsFarAbove}
 use Rattle.leaf_set.proofs.Containment.{Contains, Contains-covers, covers-Contains, Contains-between, Contains-trans, Contains-one, Contains-parent_of, same_cube}
-use Rattle.leaf_set.proofs.StepMeetings.{StepsInto-MeetsOnAxis, MeetsOnAxis-IsStep}
+use Rattle.leaf_set.proofs.StepMeetings.{StepsInto-MeetsOnAxis, MeetsOnAxis-corner_step}
 
 -- ---- places
 
@@ -43,9 +45,9 @@ module _ (grid : Grid) (g : IsDomain grid) (a c : Cube) (i : IsInside grid a) (j
         below = omega arith;
         around = record {
           level = omega arith;
-          x = subst (λ k. IsStep (grid.trees_x * 2 ^ a.level) grid.wraps_x a.x k cx.u) sx cx.step;
-          y = subst (λ k. IsStep (grid.trees_y * 2 ^ a.level) grid.wraps_y a.y k cy.u) sy cy.step;
-          z = subst (λ k. IsStep (grid.trees_z * 2 ^ a.level) grid.wraps_z a.z k cz.u) sz cz.step;
+          x = subst (λ k. IsNext (grid.trees_x * 2 ^ a.level) grid.wraps_x (corner_step a.x k) a.x cx.u) sx cx.step;
+          y = subst (λ k. IsNext (grid.trees_y * 2 ^ a.level) grid.wraps_y (corner_step a.y k) a.y cy.u) sy cy.step;
+          z = subst (λ k. IsNext (grid.trees_z * 2 ^ a.level) grid.wraps_z (corner_step a.z k) a.z cz.u) sz cz.step;
         };
         over = record { level = omega arith; x = cx.over; y = cy.over; z = cz.over };
       }
@@ -56,46 +58,17 @@ module _ (grid : Grid) (g : IsDomain grid) (a c : Cube) (i : IsInside grid a) (j
       let low : a.level ≤ 6 = omega (arith, g.finest, i.level) in
       record {
         apart = λ e. let l : a.level ≡ c.level = ap (λ (q : Cube). q.level) e in omega arith;
-        on_x = MeetsOnAxis-IsStep grid.trees_x grid.wraps_x a.level c.level a.x c.x low o (s % 2) u.x k.x over.x;
-        on_y = MeetsOnAxis-IsStep grid.trees_y grid.wraps_y a.level c.level a.y c.y low o (s / 2 % 2) u.y k.y over.y;
-        on_z = MeetsOnAxis-IsStep grid.trees_z grid.wraps_z a.level c.level a.z c.z low o (s / 4) u.z k.z over.z;
+        on_x = MeetsOnAxis-corner_step grid.trees_x grid.wraps_x a.level c.level a.x c.x low o (s % 2) u.x i.x k.x over.x;
+        on_y = MeetsOnAxis-corner_step grid.trees_y grid.wraps_y a.level c.level a.y c.y low o (s / 2 % 2) u.y i.y k.y over.y;
+        on_z = MeetsOnAxis-corner_step grid.trees_z grid.wraps_z a.level c.level a.z c.z low o (s / 4) u.z i.z k.z over.z;
       }
 
--- the places around the corner of one inside the domain lie inside it
-inside_step : (n x k u : ℕ) (wraps : Bool) → x < n → IsStep n wraps x k u → u < n
-inside_step n x k u wraps h (inl own) = omega (arith, own.1)
-inside_step n x k u wraps h (inr t) = t.1.inside
-
-axis_16 : (t l n : ℕ) → t ≤ 16 → n < t * 2 ^ l → n < 16 * 2 ^ l
-axis_16 t l n h k = omega (arith, mul-le t (2 ^ l) 16 (2 ^ l) h (le_refl (2 ^ l)))
-
-pub IsPlace-IsAroundCorner : (grid : Grid) (a u : Cube) (s : ℕ) → IsDomain grid → IsInside grid a → IsAroundCorner grid a s u → IsPlace u
-IsPlace-IsAroundCorner grid a u s g i h =
-    let low : u.level ≤ 6 = omega (arith, g.finest, i.level, h.level) in
-    let x = inside_step (grid.trees_x * 2 ^ a.level) a.x (s % 2) u.x grid.wraps_x i.x h.x in
-    let y = inside_step (grid.trees_y * 2 ^ a.level) a.y (s / 2 % 2) u.y grid.wraps_y i.y h.y in
-    let z = inside_step (grid.trees_z * 2 ^ a.level) a.z (s / 4) u.z grid.wraps_z i.z h.z in
-    record {
-      level = low;
-      x = subst (λ l. u.x < 16 * 2 ^ l) (sym h.level) (axis_16 grid.trees_x a.level u.x g.most_x x);
-      y = subst (λ l. u.y < 16 * 2 ^ l) (sym h.level) (axis_16 grid.trees_y a.level u.y g.most_y y);
-      z = subst (λ l. u.z < 16 * 2 ^ l) (sym h.level) (axis_16 grid.trees_z a.level u.z g.most_z z);
-    }
-
 -- the place numbered 0 is the leaf's own
-own_step : (n x u : ℕ) (wraps : Bool) → IsStep n wraps x 0 u → u ≡ x
-own_step n x u wraps (inl own) = own.1
-own_step n x u wraps (inr t) = absurd (omega (arith, t.0))
-
-own_place : (grid : Grid) (a u : Cube) → IsAroundCorner grid a 0 u → u ≡ a
-own_place grid a u h =
-    same_cube u a h.level (own_step (grid.trees_x * 2 ^ a.level) a.x u.x grid.wraps_x h.x) (own_step (grid.trees_y * 2 ^ a.level) a.y u.y grid.wraps_y h.y)
-    (own_step (grid.trees_z * 2 ^ a.level) a.z u.z grid.wraps_z h.z)
-
--- what making a place answers where it is within the limits
-pub place_is : (r : Option Cube) (place u : Cube) → (IsSome r ↔ IsPlace place) → IfSome r (λ q. q ≡ place) → place ≡ u → IsPlace u → r ≡ Some u
-place_is None place u limits value e h = absurd (false≢true (limits.1 (subst IsPlace (sym e) h)))
-place_is (Some q) place u limits value e h = ap Some (value ∙ e)
+own_place : (grid : Grid) (a u : Cube) → IsInside grid a → IsAroundCorner grid a 0 u → u ≡ a
+own_place grid a u i h =
+    same_cube u a h.level (IsNext-none_self (grid.trees_x * 2 ^ a.level) grid.wraps_x a.x u.x i.x h.x)
+    (IsNext-none_self (grid.trees_y * 2 ^ a.level) grid.wraps_y a.y u.y i.y h.y)
+    (IsNext-none_self (grid.trees_z * 2 ^ a.level) grid.wraps_z a.z u.z i.z h.z)
 
 -- ---- leaves
 
@@ -206,11 +179,11 @@ pub record IsFirstOver (grid : Grid) (mesh : List Cube) (i : ℕ) (a : Cube) (n 
   pub first : (s j : ℕ) (u c : Cube) → s < n → IsAroundCorner grid a s u → IsFarOver mesh u j c → IsSomeAnd r (λ k. k ≤ j)
 
 -- no other leaf lies over the leaf's own place
-pub IsFirstOver-own : (grid : Grid) (mesh : List Cube) (i : ℕ) (a : Cube) → HasLeavesApart mesh → slice_get mesh i ≡ Some a → IsFirstOver grid mesh i a 1 None
-IsFirstOver-own grid mesh i a apart at = record {
+pub IsFirstOver-own : (grid : Grid) (mesh : List Cube) (i : ℕ) (a : Cube) → IsInside grid a → HasLeavesApart mesh → slice_get mesh i ≡ Some a → IsFirstOver grid mesh i a 1 None
+IsFirstOver-own grid mesh i a inside apart at = record {
   found = tt;
   first = λ s j u c h b v.
-      let own : u ≡ a = own_place grid a u (subst (λ t. IsAroundCorner grid a t u) (let e : s ≡ 0 = omega arith in e) b) in
+      let own : u ≡ a = own_place grid a u inside (subst (λ t. IsAroundCorner grid a t u) (let e : s ≡ 0 = omega arith in e) b) in
       let same : j ≡ i = apart j i c a v.leaf at (subst (λ q. covers c q ≡ true) own v.covers) in
       let e : c ≡ a = same_Some c a (sym v.leaf ∙ ap (slice_get mesh) same ∙ at) in
       let l : c.level ≡ u.level = ap (λ (q : Cube). q.level) (e ∙ sym own) in

@@ -5,7 +5,7 @@ use Rattle.std.proofs.lemmas.Option.{same_Some, slice_get_within}
 use Rattle.block_index.specs.Places.{Cube, Grid}
 use Rattle.leaf_set.specs.Meshes.{IsBalanced}
 use Rattle.leaf_set.specs.LeafFaults.{IsFirstPair, Jumps}
-use Rattle.leaf_set.specs.JumpSearch.{IsFarAbove, IsUpTo}
+use Rattle.leaf_set.specs.Lemmas.JumpSearch.{IsFarAbove, IsUpTo}
 use Rattle.leaf_set.proofs.Boxes.{Touches-sym}
 
 -- ---- jumps and their finer leaves

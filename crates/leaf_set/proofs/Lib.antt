@@ -1,3 +1,4 @@
+-- The lemmas of this crate by subject.
 pub mod Containment
 pub mod Spots
 pub mod Counts
@@ -27,3 +28,4 @@ pub mod StepMeetings
 pub mod FarLeaves
 pub mod FirstJumps
 pub mod Splitting
+pub mod MeetingLeaves

@@ -9,32 +9,14 @@ use Rattle.std.proofs.lemmas.Option.{slice_get_within, slice_get-get_or, get_or_
 use Rattle.indexmap.specs.IndexSet.{insert_key}
 use Rattle.indexmap.proofs.CallerLemmas.{Contains-list_any}
 use Rattle.block_index.specs.Places.{Cube}
-use Rattle.block_index.specs.contracts.place.PlacePartialEq.TheImpl.{eq-value}
+use Rattle.block_index.proofs.Equality.{place_eq, place_eq-itself, same_from_place_eq}
 use Rattle.leaf_set.specs.Meshes.{IsLeaf}
 use Rattle.leaf_set.specs.MeshLaws.{HasDistinctLeaves}
-
-abbrev pub place_eq : Cube → Cube → Bool
-place_eq = eq-value.it
-
-pub same_from_place_eq : (a c : Cube) → place_eq a c ≡ true → a ≡ c
-same_from_place_eq a c h =
-    let fields : (a.level ≡ c.level) × (a.x ≡ c.x) × (a.y ≡ c.y) × (a.z ≡ c.z) = search (tests, rules) in
-    λ i. record { level = fields.0 i; x = fields.1 i; y = fields.2 i; z = fields.3 i }
-
-place_eq-itself : (a : Cube) → place_eq a a ≡ true
-place_eq-itself a = search (tests, rules)
 
 list_any-IsLeaf : (xs : List Cube) (c : Cube) → IsLeaf xs c → list_any (place_eq c) xs ≡ true
 list_any-IsLeaf xs c (i, s) =
     list_any_at (place_eq c) xs i c (slice_get_within xs i c s)
     (subst (λ d. place_eq c d ≡ true) (sym (get_or_from_slice_get xs i c c s)) (place_eq-itself c))
-
--- a look-up finds an index at which the place stands
-pub position-found : (r : Option ℕ) (xs : List Cube) (c : Cube) → r ≡ position (place_eq c) xs → IfSome r (λ i. slice_get xs i ≡ Some c)
-position-found None xs c h = tt
-position-found (Some i) xs c h =
-    let p = position-Some (place_eq c) xs i c (sym h) in
-    slice_get-get_or xs i c p.0 ∙ ap Some (sym (same_from_place_eq c (get_or xs i c) p.1))
 
 -- and finds none exactly where it isn't there
 pub position-none : (r : Option ℕ) (xs : List Cube) (c : Cube) → IfSome r (λ i. slice_get xs i ≡ Some c)

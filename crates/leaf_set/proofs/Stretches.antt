@@ -4,7 +4,7 @@ use Rattle.std.proofs.lemmas.Nat.{mul-le}
 use Rattle.std.proofs.Math.Nat.{pow-le-pow_right}
 use Rattle.block_index.specs.Places.{Cube, Grid, IsInside, IsDomain, IsPlace, child_of, parent_of, child_number}
 use Rattle.block_index.specs.Order.{rank}
-use Rattle.leaf_set.specs.Stretches.{beginning, ending, IsFirstFrom, AreNoneFrom}
+use Rattle.leaf_set.specs.Lemmas.Stretches.{beginning, ending, IsFirstFrom, AreNoneFrom}
 use Rattle.leaf_set.proofs.Containment.{Contains, Contains-parent_of, Contains-above, above, child_of-child_number, child_number_below, IsInside-child_of, IsInside-Contains, IsInside-corner, corner, same_cube}
 use Rattle.leaf_set.proofs.Spots.{spot, start, stop, start-spot, stop-start, rank-start, start-child_of, stop-child_of, stop-children, child_width, Contains-stretch, spot-root, start-stop}
 

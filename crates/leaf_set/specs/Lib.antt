@@ -1,3 +1,4 @@
+-- The definitions of this crate, in the order in which one stands on another.
 pub mod Meshes
 pub mod LevelRules
 pub mod NextMesh
@@ -10,5 +11,4 @@ pub mod TouchingLeaves
 pub mod Opening
 pub mod Tiling
 pub mod LeafFaults
-pub mod Stretches
-pub mod JumpSearch
+pub mod Lemmas

@@ -1,7 +1,7 @@
 -- Meshes: lists of leaves in order that cover each finest place once, and balance.
-use Rattle.std.specs.Prelude.{◌≡◌, ℕ, ◌+◌, ◌≤◌, List, Some, slice_get, count_by}
-use Rattle.block_index.specs.Places.{Cube, Grid, IsInside, covers}
-use Rattle.block_index.specs.Order.{IsBefore}
+use Rattle.std.specs.Prelude.{◌≡◌, ℕ, ◌+◌, ◌*◌, ◌^◌, ◌≤◌, List, Some, slice_get, count_by}
+use Rattle.block_index.specs.Places.{Cube, Grid, IsInside, covers, most_trees}
+use Rattle.block_index.specs.Order.{IsBefore, deepest_in_tree}
 use Rattle.block_index.specs.Touching.{Touches}
 
 -- c is a leaf of the mesh
@@ -17,6 +17,10 @@ pub record IsMesh (grid : Grid) (mesh : List Cube) : Type 0 where
   pub inside : (i : ℕ) (c : Cube) → slice_get mesh i ≡ Some c → IsInside grid c
   pub ordered : (i : ℕ) (a c : Cube) → slice_get mesh i ≡ Some a → slice_get mesh (i + 1) ≡ Some c → IsBefore a c
   pub covered : (c : Cube) → IsInside grid c → c.level ≡ grid.finest → cover_count mesh c ≡ 1
+
+-- the most leaves of a mesh: all places of the deepest level in a domain of the most trees
+abbrev pub most_leaves : ℕ
+most_leaves = most_trees ^ 3 * deepest_in_tree
 
 -- touching leaves differ by at most one level
 abbrev pub IsBalanced : Grid → List Cube → Type 0

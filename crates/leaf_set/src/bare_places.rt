@@ -2,7 +2,7 @@
 ghost use Rattle.std.specs.Prelude.{◌≡◌, ℕ, ◌+◌, ◌≤◌, IfSome, IsNone};
 ghost use Rattle.block_index.specs.Places.{Cube, IsDomain, IsInside};
 ghost use Rattle.leaf_set.specs.LeafFaults.{IsFirstBare, StandInOrder, LieInside, LieApart, CoverAll};
-ghost use Rattle.leaf_set.specs.Stretches.{beginning, ending, IsFirstFrom, AreNoneFrom};
+ghost use Rattle.leaf_set.specs.Lemmas.Stretches.{beginning, ending, IsFirstFrom, AreNoneFrom};
 
 use block_index::{Domain, Place};
 

@@ -5,12 +5,13 @@
 
 ghost use Rattle.std.specs.Prelude.{◌≡◌, ℕ, ◌+◌, ◌*◌, ◌^◌, ◌<◌, ◌≤◌, ◌⊎◌, min, max, Some, IfSome, IsNone, IsSomeAnd, length, slice_get};
 ghost use Rattle.block_index.specs.Places.{Cube, IsDomain, IsInside};
+ghost use Rattle.block_index.specs.Axes.{IsUnitStep};
 ghost use Rattle.leaf_set.specs.LeafFaults.{IsFirstPair, Jumps};
 ghost use Rattle.leaf_set.specs.MeshLaws.{HasLeavesApart};
 ghost use Rattle.leaf_set.specs.Meshes.{IsLeaf, IsMesh, IsBalanced};
-ghost use Rattle.leaf_set.specs.JumpSearch.{IsBeyond, IsStep, IsAroundCorner, IsFarOver, IsFarAbove, IsUpTo};
+ghost use Rattle.leaf_set.specs.Lemmas.JumpSearch.{IsAroundCorner, IsFarOver, IsFarAbove, IsUpTo, corner_step};
 
-use block_index::{Domain, Place};
+use block_index::{Domain, Place, place_beyond};
 use indexmap::IndexSet;
 
 #[cfg(test)]
@@ -131,55 +132,26 @@ fn around_corner(domain: &Domain, leaf: Place, s: u8) -> Option<Place>
     ensures found { IfSome result (λ u. IsAroundCorner domain.now leaf s u) }
     ensures every { (u : Cube) → IsAroundCorner domain.now leaf s u → result ≡ Some u }
 {
-    let [trees_x, trees_y, trees_z] = domain.array();
-    let [wraps_x, wraps_y, wraps_z] = domain.periodic();
-    let level = leaf.level();
-    let x = step_of_level(trees_x, level, wraps_x, leaf.x(), s % 2)?;
-    let y = step_of_level(trees_y, level, wraps_y, leaf.y(), s / 2 % 2)?;
-    let z = step_of_level(trees_z, level, wraps_z, leaf.z(), s / 4)?;
-    Place::new(level, x, y, z)
+    place_beyond(
+        leaf,
+        corner_step(leaf.x(), s % 2),
+        corner_step(leaf.y(), s / 2 % 2),
+        corner_step(leaf.z(), s / 4),
+        domain,
+    )
 }
 
-/// Along an axis of so many trees: the coordinate `x` of a place of a level, with `k = 0`, or that of the place
-/// beyond.
-fn step_of_level(trees: u16, level: u8, wraps: bool, x: u16, k: u8) -> Option<u16>
-    requires trees { trees ≤ 16 }
-    requires level { level ≤ 6 }
-    requires leaf { x < trees * 2 ^ level }
+/// The step from a place along an axis: none with `k = 0`, else the one to the side where its parent ends too.
+fn corner_step(x: u16, k: u8) -> i8
     requires number { k < 2 }
-    ensures found { IfSome result (λ u. IsStep (trees * 2 ^ level) wraps x k u) }
-    ensures every { (u : ℕ) → IsStep (trees * 2 ^ level) wraps x k u → result ≡ Some u }
-{
-    step(trees << level, wraps, x, k)
-}
-
-/// Along an axis that is `length` places long: the coordinate `x` of a place, with `k = 0`, or that of the place next
-/// to it on the side where its parent ends too.
-fn step(length: u16, wraps: bool, x: u16, k: u8) -> Option<u16>
-    requires length { length ≤ 1024 }
-    requires leaf { x < length }
-    requires number { k < 2 }
-    ensures found { IfSome result (λ u. IsStep length wraps x k u) }
-    ensures every { (u : ℕ) → IsStep length wraps x k u → result ≡ Some u }
+    ensures step { result ≡ corner_step x k }
+    ensures unit { IsUnitStep result }
 {
     if k == 0 {
-        Some(x)
+        0
+    } else if x % 2 == 0 {
+        -1
     } else {
-        beyond(length, wraps, x)
-    }
-}
-
-/// Along an axis that is `length` places long: the coordinate of the place next to that at `x`, on the side where its
-/// parent ends too.
-fn beyond(length: u16, wraps: bool, x: u16) -> Option<u16>
-    requires length { length ≤ 1024 }
-    requires leaf { x < length }
-    ensures found { IfSome result (λ u. IsBeyond length wraps x u) }
-    ensures every { (u : ℕ) → IsBeyond length wraps x u → result ≡ Some u }
-{
-    match x + 2 * (x % 2) {
-        0 => wraps.then_some(length - 1),
-        next if next <= length => Some(next - 1),
-        _ => wraps.then_some(0),
+        1
     }
 }

@@ -6,7 +6,7 @@ ghost use Rattle.block_index.specs.declared.wish.Wish.{Wish};
 ghost use Rattle.leaf_set.specs.declared.leaf_fault.LeafFault.{LeafFault};
 ghost use Rattle.leaf_set.specs.declared.leaf_fault.LeafFault.TheVariants.{Memory};
 ghost use Rattle.leaf_set.specs.LeafFaults.{IsLeafFault};
-ghost use Rattle.leaf_set.specs.Meshes.{IsLeaf, IsMesh, IsBalanced};
+ghost use Rattle.leaf_set.specs.Meshes.{IsLeaf, IsMesh, IsBalanced, most_leaves};
 ghost use Rattle.leaf_set.specs.LevelRules.{IsSolution};
 ghost use Rattle.leaf_set.specs.NextMesh.{next_mesh};
 ghost use Rattle.leaf_set.specs.RootMesh.{root_mesh, tree_count};
@@ -40,7 +40,7 @@ pub fn leaves_of_a_mesh()
     ensures decided { (mesh : List Cube) (c : Cube) → IsLeafOrNot mesh c }
     ensures count { (grid : Grid) (mesh : List Cube) → IsDomain grid → IsMesh grid mesh →
         length mesh ≤ tree_count grid * 8 ^ grid.finest }
-    ensures limit { (grid : Grid) (mesh : List Cube) → IsDomain grid → IsMesh grid mesh → length mesh ≤ 2 ^ 30 }
+    ensures limit { (grid : Grid) (mesh : List Cube) → IsDomain grid → IsMesh grid mesh → length mesh ≤ most_leaves }
 {}
 
 /// The next mesh of a mesh at any solution of the level rules is a mesh, and each of its leaves has an origin.

@@ -1,10 +1,11 @@
 //! Laws about touching places, the level rules and the next mesh: balance, the solutions, and the least of them.
 
 ghost use Rattle.std.specs.Prelude.{◌≡◌, ℕ, ◌+◌, ◌≤◌, true, List, Some, slice_get, slice_index};
-ghost use Rattle.block_index.specs.Places.{Cube, Grid, IsDomain, covers};
+ghost use Rattle.block_index.specs.Places.{Cube, Grid, IsDomain, IsInside, covers, deepest};
 ghost use Rattle.block_index.specs.Touching.{Touches};
 ghost use Rattle.block_index.specs.declared.wish.Wish.{Wish};
 ghost use Rattle.leaf_set.specs.Meshes.{IsLeaf, IsMesh, IsBalanced};
+ghost use Rattle.leaf_set.specs.TouchingLeaves.{IsCoveredBeside};
 ghost use Rattle.leaf_set.specs.LevelRules.{IsSolution, IsLeast};
 ghost use Rattle.leaf_set.specs.NextMesh.{next_mesh};
 ghost use Rattle.leaf_set.specs.Solutions.{greatest_levels, pointwise_min};
@@ -13,8 +14,14 @@ ghost use Rattle.leaf_set.specs.LevelChanges.{Overlap, DifferByAtMostOne};
 /// Touching is symmetric, and of two places that touch, those that cover them touch too unless one covers the other.
 pub fn touching_places()
     ensures symmetric { (grid : Grid) (a c : Cube) → Touches grid a c → Touches grid c a }
-    ensures grows { (grid : Grid) (a b c f : Cube) → covers a b ≡ true → covers c f ≡ true → b.level ≤ 6 → f.level ≤ 6 →
+    ensures grows { (grid : Grid) (a b c f : Cube) → covers a b ≡ true → covers c f ≡ true → b.level ≤ deepest → f.level ≤ deepest →
         (covers a c ≡ true → ⊥) → Touches grid b f → Touches grid a c }
+{}
+
+/// Beside a leaf of a balanced mesh a place as wide is a leaf, or its parent is, or its children that touch the leaf are.
+pub fn places_beside_a_leaf()
+    ensures covered { (grid : Grid) (mesh : List Cube) (q b : Cube) → IsDomain grid → IsMesh grid mesh → IsBalanced grid mesh →
+        IsLeaf mesh b → q.level ≡ b.level → IsInside grid q → Touches grid q b → IsCoveredBeside grid mesh q b }
 {}
 
 /// The next mesh of a mesh at any solution of the level rules is balanced, and no level changes by more than one.

@@ -1,8 +1,10 @@
+//! The leaf set: making one, and looking for leaves by their places and positions.
+
 ghost use Rattle.std.specs.Prelude.{◌≡◌, ◌^◌, ◌<◌, ◌≤◌, ◌↔◌, true, Some, IfOk, IfErr, IfSome, IsNone, length, slice_get};
 ghost use Rattle.block_index.specs.Places.{Cube, IsDomain, covers};
 ghost use Rattle.leaf_set.specs.LeafFaults.{IsLeafFault};
 ghost use Rattle.leaf_set.specs.MeshLaws.{HasDistinctLeaves};
-ghost use Rattle.leaf_set.specs.Meshes.{IsLeaf};
+ghost use Rattle.leaf_set.specs.Meshes.{IsLeaf, most_leaves};
 ghost use Rattle.leaf_set.specs.RootMesh.{root_at, root_mesh, tree_count};
 ghost use Rattle.leaf_set.specs.Tiling.{IsTiling};
 
@@ -88,7 +90,7 @@ impl LeafSet {
     /// How many leaves there are.
     pub fn len(&self) -> usize
         ensures len { result ≡ length self.now.places }
-        ensures limit { length self.now.places ≤ 2 ^ 30 }
+        ensures limit { length self.now.places ≤ most_leaves }
         ensures tiles { IsTiling self.now }
     {
         self.places.len()

@@ -3,7 +3,7 @@ use Rattle.std.proofs.lemmas.Option.{none-some, slice_get_within}
 use Rattle.block_index.specs.Places.{child_of, parent_of}
 use Rattle.leaf_set.proofs.Containment.{Contains-parent_of, covers-Contains}
 use Rattle.leaf_set.proofs.LeafCounts.{length-IsMesh_limit}
-use Rattle.cello_neighbours.specs.Directions.{IsBeyond}
+use Rattle.block_index.specs.Beyond.{IsBeyond}
 use Rattle.cello_neighbours.specs.Covers.{IsCoarserOver}
 use Rattle.cello_neighbours.proofs.NearChildren.{LiesAgainst-child_of}
 use Rattle.cello_neighbours.proofs.Splits.{below_finest, IsLeaf-LiesAgainst}

@@ -1,5 +1,5 @@
 use Rattle.cello_neighbours.proofs.Gatherings.{Gathers}
 use Rattle.cello_neighbours.proofs.neighbours.touching.Given as goal
 
-abbrev pub invariant-loop-s : goal.invariant-loop-s
-invariant-loop-s l = Gathers l.set.grid l.set.places l.b l.s l.found
+abbrev pub invariant-loop-n : goal.invariant-loop-n
+invariant-loop-n l = Gathers l.set.grid l.set.places l.b l.n l.found

@@ -1,6 +1,6 @@
 use Rattle.std.proofs.Common.{◌≡◌, ◌+◌, ◌-◌, arith, sym, ap, subst, ◌∙◌}
 use Rattle.block_index.specs.Places.{IsInside, IsPlace}
-use Rattle.leaf_set.specs.Stretches.{beginning}
+use Rattle.leaf_set.specs.Lemmas.Stretches.{beginning}
 use Rattle.leaf_set.proofs.Containment.{corner}
 use Rattle.leaf_set.proofs.Stretches.{corner-shifted, corner-begins, IsPlace-IsInside}
 use Rattle.leaf_set.proofs.Values.{value-IfSome}

@@ -1,6 +1,6 @@
 use Rattle.std.proofs.Common.{◌≡◌, ◌+◌, arith, sym, ap, subst, ◌∙◌}
 use Rattle.block_index.specs.Places.{Cube, IsInside, child_of, parent_of, child_number}
-use Rattle.leaf_set.specs.Stretches.{ending, IsFirstFrom}
+use Rattle.leaf_set.specs.Lemmas.Stretches.{ending, IsFirstFrom}
 use Rattle.leaf_set.proofs.Stretches.{next_child, last_child}
 use Rattle.leaf_set.proofs.Values.{positive}
 use Rattle.leaf_set.proofs.bare_places.place_after.Goals as goal

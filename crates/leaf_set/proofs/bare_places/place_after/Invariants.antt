@@ -1,6 +1,6 @@
 use Rattle.std.proofs.Common.{◌≡◌}
 use Rattle.block_index.specs.Places.{IsInside}
-use Rattle.leaf_set.specs.Stretches.{ending}
+use Rattle.leaf_set.specs.Lemmas.Stretches.{ending}
 use Rattle.leaf_set.proofs.bare_places.place_after.Given as goal
 
 -- the last place looked at ends where the first does

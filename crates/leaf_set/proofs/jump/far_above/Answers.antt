@@ -1,7 +1,7 @@
 use Rattle.std.proofs.Common.{◌≡◌, ◌≤◌, ◌↔◌, true≢false, Some, IsNone, slice_get, refl, sym, ap, subst, arith, inl, inr}
 use Rattle.std.proofs.lemmas.Bool.{cases_lt}
 use Rattle.block_index.specs.Places.{Cube}
-use Rattle.leaf_set.specs.JumpSearch.{IsFarOver}
+use Rattle.leaf_set.specs.Lemmas.JumpSearch.{IsFarOver}
 use Rattle.leaf_set.proofs.FarLeaves.{RisesTo, RisesTo-rise, IsFarOver-RisesTo, over_once}
 use Rattle.leaf_set.proofs.jump.far_above.Goals as goal
 

@@ -1,6 +1,6 @@
 use Rattle.std.proofs.Common.{sym, subst}
 use Rattle.std.proofs.lemmas.Option.{none-some, same_Some, IfSome_then}
-use Rattle.leaf_set.specs.JumpSearch.{IsFarOver}
+use Rattle.leaf_set.specs.Lemmas.JumpSearch.{IsFarOver}
 use Rattle.leaf_set.proofs.jump.far_above_around.Goals as goal
 
 pub returns-in_err-around_corner-clause-every : goal.returns-in_err-around_corner-clause-every

@@ -10,7 +10,7 @@ far_above_around-requires-clause-apart c = IsMesh-HasLeavesApart _ _ c.requires.
 
 pub loop-s-init : goal.loop-s-init
 loop-s-init c =
-    IsFirstOver-own c.args.domain.now c.args.places.now.keys c.args.i c.index-as_slice-i.result (IsMesh-HasLeavesApart _ _ c.requires.domain c.requires.mesh) (leaf_read c.as_slice.result.now c.args.places.now.keys c.args.i c.index-as_slice-i.result c.as_slice.ensures.keys c.requires.leaf c.index-as_slice-i.is)
+    IsFirstOver-own c.args.domain.now c.args.places.now.keys c.args.i c.index-as_slice-i.result (c.requires.mesh.inside c.args.i c.index-as_slice-i.result (leaf_read c.as_slice.result.now c.args.places.now.keys c.args.i c.index-as_slice-i.result c.as_slice.ensures.keys c.requires.leaf c.index-as_slice-i.is)) (IsMesh-HasLeavesApart _ _ c.requires.domain c.requires.mesh) (leaf_read c.as_slice.result.now c.args.places.now.keys c.args.i c.index-as_slice-i.result c.as_slice.ensures.keys c.requires.leaf c.index-as_slice-i.is)
 
 pub loop-s-preserved : goal.loop-s-preserved
 loop-s-preserved c =

@@ -2,7 +2,8 @@ use Rattle.std.proofs.Common.{arith, ◌<◌, length, refl, sym, ap, subst, ◌�
 use Rattle.std.proofs.lemmas.Option.{slice_get_read}
 use Rattle.indexmap.specs.IndexSet.{insert_key}
 use Rattle.leaf_set.specs.MeshLaws.{HasDistinctLeaves}
-use Rattle.leaf_set.proofs.Positions.{place_eq, insert_key-next}
+use Rattle.block_index.proofs.Equality.{place_eq}
+use Rattle.leaf_set.proofs.Positions.{insert_key-next}
 use Rattle.leaf_set.proofs.set.indexed.Goals as goal
 
 pub loop-place-preserved : goal.loop-place-preserved

@@ -1,11 +1,12 @@
 use Rattle.std.proofs.Common.{position, ap, ◌∙◌}
 use Rattle.std.specs.List.{list_any}
-use Rattle.leaf_set.proofs.Positions.{place_eq, position-found, position-none}
+use Rattle.block_index.proofs.Equality.{place_eq, position-place_eq}
+use Rattle.leaf_set.proofs.Positions.{position-none}
 use Rattle.leaf_set.proofs.set.LeafSet.position.Goals as goal
 
 pub returns-clause-found : goal.returns-clause-found
 returns-clause-found c =
-    position-found _ _ _ (c.get_index_of.ensures.index ∙ ap (λ t. position (place_eq c.args.at) t.places) c.self.view_is)
+    position-place_eq _ _ _ (c.get_index_of.ensures.index ∙ ap (λ t. position (place_eq c.args.at) t.places) c.self.view_is)
 
 pub returns-clause-none : goal.returns-clause-none
 returns-clause-none c =

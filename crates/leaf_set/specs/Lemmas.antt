@@ -1,0 +1,3 @@
+-- Definitions that serve proofs alone: no public contract rests on them.
+pub mod Stretches
+pub mod JumpSearch
