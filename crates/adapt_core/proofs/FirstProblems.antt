@@ -26,7 +26,7 @@ use Rattle.adapt_core.specs.Lemmas.FirstCells.{IsPartOf}
 use Rattle.adapt_core.proofs.EveryRun.{adapt_laws}
 use Rattle.adapt_core.proofs.PartsOfLeaves.{IsAdaptProblem-parts, parts_mesh, parts_wishes}
 use Rattle.leaf_set.specs.Tiling.{IsTiling}
-use Rattle.adapt_core.proofs.TouchingLists.{touching_list}
+use Rattle.cello_neighbours.proofs.TouchingLists.{touching_list}
 
 -- ---- opening levels
 

@@ -3,5 +3,4 @@ pub mod Rest
 pub mod EveryRun
 pub mod PartsOfLeaves
 pub mod OneProblem
-pub mod TouchingLists
 pub mod FirstProblems

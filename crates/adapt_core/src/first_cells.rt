@@ -1,6 +1,7 @@
 //! The cells with which a phase over a leaf set begins.
 
-ghost use Rattle.std.specs.Prelude.{◌≡◌, ◌^◌, ◌<◌, ◌≤◌, All, IfOk, length};
+ghost use Rattle.std.specs.Prelude.{◌≡◌, ◌<◌, ◌≤◌, All, IfOk, length};
+ghost use Rattle.leaf_set.specs.Meshes.{most_leaves};
 ghost use Rattle.adapt_core.specs.Lemmas.FirstCells.{AreFirstCells, IsFirstCell};
 ghost use Rattle.adapt_core.specs.Problem.{siblings_among};
 
@@ -42,7 +43,7 @@ fn first_cell(
     at: usize,
 ) -> Result<AdaptCell, Memory>
     requires leaf { at < length set.now.places }
-    requires limit { length set.now.places ≤ 2 ^ 30 }
+    requires limit { length set.now.places ≤ most_leaves }
     requires wishes { length wishes.now ≡ length set.now.places }
     requires openings { length openings.now ≡ length set.now.places }
     ensures { IfOk result (λ cell. IsFirstCell set.now.grid set.now.places wishes.now openings.now at cell) }

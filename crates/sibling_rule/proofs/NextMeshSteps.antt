@@ -1,7 +1,8 @@
 -- The next mesh, leaf by leaf.
-use Rattle.std.proofs.Common.{◌≡◌, ℕ, zero, suc, ◌+◌, ◌^◌, ◌<◌, ◌≤◌, List, [], ◌∷◌, ◌++◌, Some, length, drop, slice_get, slice_index, refl, sym, ap, subst, arith, add-one}
+use Rattle.std.proofs.Common.{◌≡◌, ℕ, zero, suc, ◌+◌, ◌<◌, ◌≤◌, List, [], ◌∷◌, ◌++◌, Some, length, drop, slice_get, slice_index, refl, sym, ap, subst, arith, add-one}
 use Rattle.std.proofs.lemmas.Option.{same_Some, none-some}
-use Rattle.block_index.specs.Places.{Cube}
+use Rattle.block_index.specs.Places.{deepest, Cube}
+use Rattle.leaf_set.specs.Meshes.{most_leaves}
 use Rattle.leaf_set.specs.NextMesh.{leaves_after, next_mesh}
 use Rattle.leaf_set.specs.Tiling.{Tiling, IsTiling}
 use Rattle.leaf_set.proofs.NextMeshes.{next_mesh-IsMesh}
@@ -43,12 +44,12 @@ IsTiling-next_mesh t levels h (wishes, s) = record {
   balanced = next_mesh-IsBalanced t.grid t.places levels h.domain h.mesh s.range s.jump s.lone s.siblings;
 }
 
-pub length-next_mesh : (t : Tiling) (levels : List ℕ) → IsTiling t → IsDecided t.grid t.places levels → length (next_mesh t.places levels) ≤ 2 ^ 30
+pub length-next_mesh : (t : Tiling) (levels : List ℕ) → IsTiling t → IsDecided t.grid t.places levels → length (next_mesh t.places levels) ≤ most_leaves
 length-next_mesh t levels h d =
     let n = IsTiling-next_mesh t levels h d in
     length-IsMesh_limit t.grid (next_mesh t.places levels) n.domain n.mesh
 
 -- where a level rises, there is room for children
 pub room_for_children : (t : Tiling) (levels : List ℕ) (i : ℕ) (a : Cube) → IsTiling t → IsDecided t.grid t.places levels
-    → slice_get t.places i ≡ Some a → a.level < slice_index levels i → a.level < 6
+    → slice_get t.places i ≡ Some a → a.level < slice_index levels i → a.level < deepest
 room_for_children t levels i a h (wishes, s) e l = let r = s.range i a e in omega (arith, r.1, h.domain.finest)

@@ -1,7 +1,7 @@
 //! The leaves that decided levels lead to: how many, and the next mesh.
 
 ghost use Rattle.std.specs.Prelude.{◌≡◌, ◌++◌, ◌<◌, ◌≤◌, [], ◌∷◌, ◌==◌, if◌then◌else◌, IfOk, OnOk, length};
-ghost use Rattle.block_index.specs.Places.{child_number, parent_of};
+ghost use Rattle.block_index.specs.Places.{deepest, child_number, parent_of};
 ghost use Rattle.leaf_set.specs.NextMesh.{children_of, leaves_after, next_mesh};
 ghost use Rattle.sibling_rule.specs.Decided.{IsDecided};
 
@@ -52,7 +52,7 @@ fn leaf_count_after(leaf: Place, level: u8) -> u32
 
 /// Appends what one leaf leaves at its new level.
 fn push_leaves_after(places: &mut Vec<Place>, leaf: Place, level: u8) -> Result<(), Memory>
-    requires { leaf.level < level → leaf.level < 6 }
+    requires { leaf.level < level → leaf.level < deepest }
     ensures { OnOk result (places.new.items ≡ places.old.items ++ leaves_after leaf level) }
 {
     match level.cmp(&leaf.level()) {
@@ -65,7 +65,7 @@ fn push_leaves_after(places: &mut Vec<Place>, leaf: Place, level: u8) -> Result<
 
 /// Appends the eight children of a leaf in order.
 fn push_children(places: &mut Vec<Place>, leaf: Place) -> Result<(), Memory>
-    requires { leaf.level < 6 }
+    requires { leaf.level < deepest }
     ensures { OnOk result (places.new.items ≡ places.old.items ++ children_of leaf) }
 {
     for k in 0..8 {

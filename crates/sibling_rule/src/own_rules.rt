@@ -1,6 +1,7 @@
 //! The levels that open a phase, leaf by leaf.
 
 ghost use Rattle.std.specs.Prelude.{◌≡◌, ◌≤◌, ◌↔◌, IfOk, IsTrue, length, min};
+ghost use Rattle.block_index.specs.Places.{deepest};
 ghost use Rattle.leaf_set.specs.LevelRules.{wished_level};
 ghost use Rattle.leaf_set.specs.Meshes.{IsLeaf};
 ghost use Rattle.leaf_set.specs.Opening.{IsOpening};
@@ -38,7 +39,7 @@ fn opening_level(set: &LeafSet, leaf: Place, wish: Wish) -> u8
 
 /// The level that a leaf's wish asks, at most the finest.
 fn wished_level(level: u8, wish: Wish, finest: u8) -> u8
-    requires { finest ≤ 6 }
+    requires { finest ≤ deepest }
     ensures { result ≡ min (wished_level wish level) finest }
 {
     let wished = match wish {

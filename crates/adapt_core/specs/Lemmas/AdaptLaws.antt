@@ -9,6 +9,8 @@ use Rattle.std.proofs.lemmas.Option.{slice_get_cases, slice_get_within, slice_ge
 use Rattle.phase_core.specs.declared.envelope.Envelope.{Envelope}
 use Rattle.phase_core.specs.Lemmas.Lookups.{map-slice_set_same}
 use Rattle.block_index.specs.Places.{Grid}
+use Rattle.leaf_set.specs.Meshes.{most_leaves}
+use Rattle.leaf_set.specs.TouchingLeaves.{most_touching}
 use Rattle.leaf_set.proofs.LeafCounts.{length-IsMesh_limit}
 use Rattle.adapt_core.specs.declared.adapt_msg.AdaptMsg.{AdaptMsg}
 use Rattle.adapt_core.specs.declared.adapt_msg.AdaptMsg.TheVariants.{Start, Level}
@@ -49,7 +51,7 @@ same_problem grid cells p at c msg here =
     let with_parts : List LeafPart → AdaptProblem = λ parts. record { grid = grid; parts = parts } in
     ap with_parts (map-slice_set_same (λ (x : LeafState). x.part) cells at c (adapt_react p at c msg).cell here (react_part p at c msg))
 
-pub few_leaves : (p : AdaptProblem) → IsAdaptProblem p → length p.parts ≤ 2 ^ 30
+pub few_leaves : (p : AdaptProblem) → IsAdaptProblem p → length p.parts ≤ most_leaves
 few_leaves p valid = omega (arith, length-IsMesh_limit p.grid (mesh_of p) valid.domain valid.mesh, length-map p.parts (λ (x : LeafPart). x.place))
 
 pub few_cells : (p : AdaptProblem) (cells : List LeafState) (flight : List (Envelope AdaptMsg)) → AdaptHolds p cells flight → length cells < 2 ^ 32
@@ -81,8 +83,8 @@ addressed p cells flight holds k d within = go (get_or flight k d).msg refl
 -- a leaf has at most 56 that touch it, and a mesh has at most 2 ^ 30 leaves
 pub start_weight_few : (p : AdaptProblem) → IsAdaptProblem p → adapt_start_weight p ≤ 2 ^ 38
 start_weight_few p valid =
-    let few : All (λ part. degree part ≤ 56) p.parts = λ k d within. (valid.parts k (get_or p.parts k d) (slice_get-get_or p.parts k d within)).touching.few in
-    let pairs : touching_pairs p ≤ length p.parts * 56 = sum_by-le degree 56 p.parts few in
+    let few : All (λ part. degree part ≤ most_touching) p.parts = λ k d within. (valid.parts k (get_or p.parts k d) (slice_get-get_or p.parts k d within)).touching.few in
+    let pairs : touching_pairs p ≤ length p.parts * most_touching = sum_by-le degree most_touching p.parts few in
     omega (arith, start_weight_most p, pairs, few_leaves p valid)
 
 pub start_weight_fits : (p : AdaptProblem) (cells : List LeafState) (flight : List (Envelope AdaptMsg)) → AdaptHolds p cells flight → adapt_start_weight p < 2 ^ 62
