@@ -26,7 +26,7 @@ unit_none = record { least = omega (arith, ints); most = omega (arith, ints) }
 pub unit_up : IsUnitStep (pos 1)
 unit_up = record { least = omega (arith, ints); most = omega (arith, ints) }
 
-within : (u y d : ℕ) → y * d ≤ u → u < y * d + d → u / d ≡ y
+pub within : (u y d : ℕ) → y * d ≤ u → u < y * d + d → u / d ≡ y
 within u y d h l =
     let r = div-mul-add y d (u - y * d) (omega arith) in
     subst (λ m. m / d ≡ y) (let e : y * d + (u - y * d) ≡ u = omega arith in e) r

@@ -1,4 +1,4 @@
--- Arithmetic along an axis that is n places long, numbered from 0: a step to the next place, a whole coordinate moved
+-- Arithmetic along an axis that is n places long, numbered from 0: a step to the next place, any coordinate moved
 -- into the axis, and stretches that meet. On a periodic axis the last place stands beside the first.
 use Rattle.std.specs.Prelude.{◌≡◌, ℕ, ◌+◌, ◌-◌, ◌%◌, ◌<◌, ◌≤◌, ◌⊎◌, min, Bool, true, false, IsTrue, ℤ, pos, negsuc, ◌+ℤ◌, ◌≤ℤ◌, ◌<ℤ◌}
 
@@ -17,7 +17,7 @@ pub record LeavesAxis (n : ℕ) (wraps : Bool) (s : ℤ) (x : ℕ) : Type 0 wher
   pub closed : wraps ≡ false
   pub past_an_end : ((pos x +ℤ s) <ℤ pos 0) ⊎ (pos n ≤ℤ (pos x +ℤ s))
 
--- a whole coordinate moved into the axis: by whole lengths of it where it is periodic, else to the nearest end
+-- any coordinate moved into the axis: by lengths of it where it is periodic, else to the nearest end
 abbrev pub moved : Bool → ℕ → ℤ → ℕ
 moved true n (pos x) = x % n
 moved true n (negsuc x) = n - 1 - x % n

@@ -51,7 +51,7 @@ fn upper(length: u32, periodic: bool, x: u32) -> Option<u32>
     }
 }
 
-/// Along an axis that is `length` places long: the coordinate that `x` is moved to, by whole lengths where the axis is
+/// Along an axis that is `length` places long: the coordinate that `x` is moved to, by lengths of the axis where that is
 /// periodic, else to the nearest end.
 pub fn moved_inside(length: u32, periodic: bool, x: i32) -> u32
     requires some { 1 ≤ length }

@@ -3,11 +3,11 @@
 use Rattle.std.proofs.Common.{◌≡◌, ℕ, zero, suc, ◌+◌, ◌-◌, ◌*◌, ◌/◌, ◌%◌, ◌^◌, ◌<◌, ◌≤◌, Bool, refl, sym, ap, ◌∙◌, arith, inl, inr, subst, pow_pos, ℤ, pos, negsuc}
 use Rattle.std.proofs.lemmas.Bool.{cases_eq}
 use Rattle.std.proofs.lemmas.Int.{ints}
-use Rattle.std.proofs.lemmas.Nat.{div-mul-add, div-add-mod', mod_below, pow-add}
+use Rattle.std.proofs.lemmas.Nat.{div-add-mod', mod_below, pow-add}
 use Rattle.block_index.specs.Axes.{IsUnitStep, IsNext}
 use Rattle.block_index.specs.Touching.{width, MeetsOnAxis}
 use Rattle.block_index.proofs.Beyond.{at_steps}
-use Rattle.block_index.proofs.Reaching.{Reached, Reached-MeetsOnAxis, MeetsOnAxis-over, unit_down, unit_none, unit_up}
+use Rattle.block_index.proofs.Reaching.{within, Reached, Reached-MeetsOnAxis, MeetsOnAxis-over, unit_down, unit_none, unit_up}
 use Rattle.leaf_set.specs.Lemmas.JumpSearch.{outward, corner_step}
 
 -- ---- the steps
@@ -37,11 +37,6 @@ pub record StepsInto (n : ℕ) (wraps : Bool) (x y d : ℕ) : Type 0 where
   pub two : k < 2
   pub step : IsNext n wraps (corner_step x k) x u
   pub over : u / d ≡ y
-
-within : (u y d : ℕ) → y * d ≤ u → u < y * d + d → u / d ≡ y
-within u y d h l =
-    let r = div-mul-add y d (u - y * d) (omega arith) in
-    subst (λ m. m / d ≡ y) (let e : y * d + (u - y * d) ≡ u = omega arith in e) r
 
 StepsInto-Reached : (n : ℕ) (wraps : Bool) (x y d e m : ℕ) → d ≡ 2 * e → n ≡ 2 * m → x < n → 0 < d → Reached n wraps x y d → StepsInto n wraps x y d
 StepsInto-Reached n wraps x y d e m p r h o t =
