@@ -1,0 +1,8 @@
+pub mod Limits
+pub mod Greater
+pub mod LevelLimits
+pub mod Phases
+pub mod PhaseMeshes
+pub mod OneRun
+pub mod RunExists
+pub mod PlainCounts

@@ -1,0 +1,5 @@
+use Rattle.run_core.proofs.RunExists.{run_exists}
+use Rattle.run_core.proofs.laws.run_exists.Goals as goal
+
+pub returns : goal.returns
+returns c = record { exists = run_exists }
