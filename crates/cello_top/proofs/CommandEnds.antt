@@ -19,14 +19,6 @@ use Rattle.cello_top.specs.Answers.{other_text, checked, not_built, run, refusal
 use Rattle.cello_top.specs.Lemmas.CommandSteps.{IsOf, call_saw, ReadParameters, ReadingEnds, reading_text, reading_source, reading_memory, AnswersRead, AnswersReadInPart, CommandEnds, command_answered, command_source, command_sink, command_memory, RanWritten, RunningEnds, running_unbuilt, running_limit, running_sink, running_memory}
 use Rattle.cello_top.proofs.FaultClasses.{text-class, text-answered, text-saw, unbuilt-class, limit-class, limit-answered, limit-saw, other-class}
 
-pub IfOk-map : {A E : Type 0} (P Q : A → Type 0) (r : Result A E) → ((x : A) → P x → Q x) → IfOk r P → IfOk r Q
-IfOk-map P Q (Ok x) go is = go x is
-IfOk-map P Q (Err e) go is = is
-
-pub IfErr-map : {A E : Type 0} (P Q : E → Type 0) (r : Result A E) → ((x : E) → P x → Q x) → IfErr r P → IfErr r Q
-IfErr-map P Q (Ok x) go is = is
-IfErr-map P Q (Err e) go is = go e is
-
 -- of two facts about an error
 pub IfErr-both : {A E : Type 0} (P Q R : E → Type 0) (r : Result A E) → ((x : E) → P x → Q x → R x) → IfErr r P → IfErr r Q → IfErr r R
 IfErr-both P Q R (Ok x) go is too = is

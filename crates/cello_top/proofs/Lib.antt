@@ -1,3 +1,4 @@
+-- Lemmas by subject.
 mod OneWord
 mod SyntaxLines
 mod FaultClasses

@@ -7,6 +7,7 @@ use Rattle.cello_top.specs.declared.fault.Fault.TheVariants.{Usage, Syntax, Para
 use Rattle.cello_top.specs.declared.fault_class.FaultClass.{FaultClass}
 use Rattle.cello_top.specs.declared.fault_class.FaultClass.TheVariants.{Words, Text, Limit, Source, Sink, Allocator}
 
+-- what a fault comes from
 abbrev pub class_of : Fault → FaultClass
 class_of Usage = Words
 class_of (Syntax fault) = Text
@@ -18,28 +19,29 @@ class_of ReadFault = Source
 class_of WriteFault = Sink
 class_of Memory = Allocator
 
--- The exit status of an end; whether it is what the words and the bytes are answered, which no device and no want of
--- memory is; whether the call came as far as to look at the full text, and as far as to write.
+-- How a call ends: its exit status; whether the answer to the words and the bytes says so, and no device or want of
+-- memory; whether the call came as far as to look at the full text, and as far as to write.
 pub record Ending : Type 0 where
   pub status : ℕ
   pub answered : Bool
   pub saw_text : Bool
   pub wrote : Bool
 
-abbrev pub ends_with : ℕ → Bool → Bool → Bool → Ending
-ends_with status answered saw_text wrote = record { status = status; answered = answered; saw_text = saw_text; wrote = wrote }
+abbrev pub ending_row : ℕ → Bool → Bool → Bool → Ending
+ending_row status answered saw_text wrote = record { status = status; answered = answered; saw_text = saw_text; wrote = wrote }
 
--- how a call ends by a fault of each class
+-- by a fault of each class: status, answered, saw the text, wrote
 abbrev pub class_ending : FaultClass → Ending
-class_ending Words = ends_with 1 true false false
-class_ending Text = ends_with 2 true true false
-class_ending Limit = ends_with 3 true true true
-class_ending Source = ends_with 4 false false false
-class_ending Sink = ends_with 4 false true true
-class_ending Allocator = ends_with 5 false false false
+class_ending Words = ending_row 1 true false false
+class_ending Text = ending_row 2 true true false
+class_ending Limit = ending_row 3 true true true
+class_ending Source = ending_row 4 false false false
+class_ending Sink = ending_row 4 false true true
+class_ending Allocator = ending_row 5 false false false
 
+-- without a fault, or by one
 abbrev pub ending_of : Option Fault → Ending
-ending_of None = ends_with 0 true true true
+ending_of None = ending_row 0 true true true
 ending_of (Some fault) = class_ending (class_of fault)
 
 -- the exit status of an outcome
@@ -58,7 +60,7 @@ SawText fault = T (ending_of fault).saw_text
 abbrev pub CameToWrite : Option Fault → Type 0
 CameToWrite fault = T (ending_of fault).wrote
 
--- the fault of a run's
+-- a run's fault as the call's
 abbrev pub fault_of : RunFault → Fault
 fault_of (run.LevelLimit phase place) = LevelLimit phase place
 fault_of (run.BlockLimit phase count limit) = BlockLimit phase count limit

@@ -1,3 +1,4 @@
+-- What contracts of the commands cite. `Lemmas` is for the proofs alone.
 pub mod Words
 pub mod Faults
 pub mod FaultLines

@@ -1,7 +1,8 @@
 -- The limits that end an adapt phase, as the code meets them.
 use Rattle.std.proofs.Common.{◌≡◌, ℕ, zero, suc, ◌+◌, ◌<◌, ◌≤◌, true, add-one, List, [], ◌∷◌, Option, Some, map, length, refl, sym, ap, subst, ◌∙◌, ◌⊎◌, inl, inr, arith}
 use Rattle.std.specs.Prelude.{slice_get}
-use Rattle.std.proofs.lemmas.Option.{same_Some}
+use Rattle.std.specs.Option.{option_map}
+use Rattle.std.proofs.lemmas.Option.{same_Some, slice_get-map, slice_get_within}
 use Rattle.std.proofs.lemmas.Bool.{cases_lt}
 use Rattle.block_index.specs.Places.{Cube, Grid}
 use Rattle.block_index.specs.declared.wish.Wish.{Wish}
@@ -14,19 +15,11 @@ use Rattle.run_core.specs.declared.fault.RunFault.TheVariants.{LevelLimit, Block
 use Rattle.run_core.specs.Wishes.{wish_of, wishes_in}
 use Rattle.run_core.specs.Runs.{WishesTooFine, KeepsLevelLimit, PassesLimit, of_level, of_blocks, Runs, RunEnds, at_limit, run_state}
 
-map_at : {A B : Type 0} (f : A → B) (xs : List A) (i : ℕ) (x : A) → slice_get xs i ≡ Some x → slice_get (map f xs) i ≡ Some (f x)
-map_at f [] i x e = absurd cc
-map_at {A} {B} f (a ∷ xs) zero x e = let go : A → Option B = λ z. Some (f z) in ap go (same_Some a x e)
-map_at f (a ∷ xs) (suc i) x e = map_at f xs i x e
-
-pub map_length : {A B : Type 0} (f : A → B) (xs : List A) → length (map f xs) ≡ length xs
-map_length f [] = refl
-map_length f (x ∷ xs) = ap suc (map_length f xs)
-
 module _ (p : Parameters) (phase : ℕ) (mesh : List Cube) (wishes : List Wish) (are : wishes ≡ wishes_in p phase mesh) where
   wish_at : (i : ℕ) (c : Cube) (w : Wish) → slice_get mesh i ≡ Some c → slice_get wishes i ≡ Some w → w ≡ wish_of p phase c
   wish_at i c w leaf at =
-      let moved : slice_get wishes i ≡ Some (wish_of p phase c) = subst (λ ws. slice_get ws i ≡ Some (wish_of p phase c)) (sym are) (map_at (wish_of p phase) mesh i c leaf) in
+      let moved : slice_get wishes i ≡ Some (wish_of p phase c) = subst (λ ws. slice_get ws i ≡ Some (wish_of p phase c)) (sym are)
+      (slice_get-map (wish_of p phase) mesh i ∙ ap (option_map (wish_of p phase)) leaf) in
       same_Some w (wish_of p phase c) (sym at ∙ moved)
 
   pub level_limit-found : (i : ℕ) (place : Cube) (w : Wish) (finest : ℕ) → p.strict ≡ true → slice_get mesh i ≡ Some place → slice_get wishes i ≡ Some w
@@ -50,12 +43,7 @@ module _ (p : Parameters) (phase : ℕ) (mesh : List Cube) (wishes : List Wish) 
 
 pub level_limit-none : (p : Parameters) (phase : ℕ) (mesh : List Cube) (end : ℕ) → length mesh ≤ end
     → ((j : ℕ) (c : Cube) → j < end → WishesTooFine p phase mesh j c → ⊥) → KeepsLevelLimit p phase mesh
-level_limit-none p phase mesh end long none strict i place too = none i place (omega (arith, below mesh i place too.leaf)) too
-  where
-    below : (mesh : List Cube) (i : ℕ) (place : Cube) → slice_get mesh i ≡ Some place → i < length mesh
-    below [] i place e = absurd cc
-    below (a ∷ mesh) zero place e = omega arith
-    below (a ∷ mesh) (suc i) place e = omega (arith, below mesh i place e)
+level_limit-none p phase mesh end long none strict i place too = none i place (omega (arith, slice_get_within mesh i place too.leaf)) too
 
 blocks-passed : (p : Parameters) (phase : ℕ) (mesh : List Cube) (levels : List ℕ) (count limit : ℕ) → KeepsLevelLimit p phase mesh
     → IsLeast p.grid mesh (wishes_in p phase mesh) levels → count ≡ length (next_mesh mesh levels) → limit ≡ p.max_blocks → limit < count

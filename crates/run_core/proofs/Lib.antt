@@ -1,3 +1,4 @@
+-- Lemmas by subject.
 pub mod Limits
 pub mod Greater
 pub mod LevelLimits

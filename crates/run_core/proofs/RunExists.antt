@@ -18,9 +18,6 @@ use Rattle.run_core.specs.declared.fault.RunFault.TheVariants.{LevelLimit, Block
 use Rattle.run_core.specs.Wishes.{wish_of, wishes_in}
 use Rattle.run_core.specs.Runs.{KeepsLevelLimit, Adapts, PassesLimit, of_level, of_blocks, RunState, RunSteps, Runs, RunEnds, after_all, at_limit, run_start, run_state}
 
-le_cases : (a b : ℕ) → (a ≤ b) ⊎ (b < a)
-le_cases a b = elim (cases_lt b a) [ inl less ↦ inr less | inr enough ↦ inl enough ]
-
 true_cases : (b : Bool) → (b ≡ true) ⊎ (b ≡ true → ⊥)
 true_cases true = inl refl
 true_cases false = inr (λ e. cc)
@@ -108,13 +105,13 @@ module _ (p : Parameters) (g : IsDomain p.grid) where
             let least = least_exists grid before wishes g m balanced in
             let levels : List ℕ = least.0 in
             let s = least.1.solves in
-            elim (le_cases (length (next_mesh before levels)) p.max_blocks) [
-              | inr many ↦
+            elim (cases_lt p.max_blocks (length (next_mesh before levels))) [
+              | inl many ↦
                   inr (
                     BlockLimit phase (length (next_mesh before levels)) p.max_blocks,
                     of_blocks levels keeps least.1 many refl,
                   )
-              | inl fits ↦
+              | inr fits ↦
                   inl (record {
                     after = next_mesh before levels;
                     adapts = record { level_limit = keeps; levels = levels; least = least.1; next = refl; block_limit = fits };

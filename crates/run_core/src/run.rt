@@ -1,7 +1,8 @@
 //! The run of parameters: its adapt phases, one after another, to the last or to a limit.
-ghost use Rattle.std.specs.Prelude.{◌≡◌, ◌⊎◌, ℕ, ◌*◌, ◌≤◌, ◌^◌, ◌↔◌, true, None, IfOk, IfErr, IfSome, IfNone, length};
+ghost use Rattle.std.specs.Prelude.{◌≡◌, ◌⊎◌, ◌≤◌, ◌↔◌, true, None, IfOk, IfErr, IfSome, IfNone, length};
 ghost use Rattle.block_index.specs.declared.wish.Wish.TheVariants.{Refine};
 ghost use Rattle.leaf_set.specs.LevelRules.{IsLeast};
+ghost use Rattle.run_core.specs.Lemmas.Bounds.{many_messages};
 ghost use Rattle.run_core.specs.Wishes.{wishes_in};
 ghost use Rattle.run_core.specs.Runs.{Adapts, KeepsLevelLimit, PassesLimit, RunEnds, most_phases, run_state};
 ghost use Rattle.run_core.specs.PlainCounts.{HandlesPlainly, IsPlainCount};
@@ -120,7 +121,7 @@ fn least_levels(alloc: Global, set: &LeafSet, wishes: &[Wish]) -> Result<(Vec<u8
     requires one_each { length wishes.now ≡ length set.now.places }
     ensures least { IfOk result (λ r. IsLeast set.now.grid set.now.places wishes.now r.0.items) }
     ensures plain { IfOk result (λ r. IsPlainCount set.now.grid set.now.places wishes.now r.1) }
-    ensures few { IfOk result (λ r. r.1 ≤ 2 ^ 40) }
+    ensures few { IfOk result (λ r. r.1 ≤ many_messages) }
 {
     let (problem, cells) = Adapt::begin(alloc, set, wishes)?;
     let quiet = drive(alloc, problem, cells)?;
@@ -136,7 +137,7 @@ fn adapt(alloc: Global, params: &Params, phase: u32, set: &LeafSet) -> Result<Ph
     ensures grid { IfOk result (λ end. end.set.grid ≡ params.now.grid) }
     ensures plain { IfOk result (λ end. IsPlainCount params.now.grid set.now.places
         (wishes_in params.now phase set.now.places) end.handled) }
-    ensures few { IfOk result (λ end. end.handled ≤ 2 ^ 40) }
+    ensures few { IfOk result (λ end. end.handled ≤ many_messages) }
     ensures ended { IfErr result (λ fault. (fault ≡ RunFault.Memory) ⊎ PassesLimit params.now phase set.now.places fault) }
 {
     let wishes = wishes_in(alloc, params, phase, set)?;

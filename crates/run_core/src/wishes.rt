@@ -1,6 +1,7 @@
 //! The wishes of leaves by the criteria.
 ghost use Rattle.std.specs.Prelude.{◌≡◌, ℕ, ◌≤◌, ◌<◌, IfOk, All, length};
 ghost use Rattle.params_check.specs.Limits.{IsCorner, KeepsTest, KeepsCriterion};
+ghost use Rattle.run_core.specs.Lemmas.Bounds.{widest_block, most_root_cells, deepest_leaf, most_across};
 ghost use Rattle.run_core.specs.Wishes.{meets_along, meets_box, box_wish, test_wish, greater, criteria_wish, wishes_in};
 
 use block_index::{Place, Wish};
@@ -11,11 +12,11 @@ use std::alloc::Global;
 
 /// Whether along one axis the box from `low` to `high` shares cells with the block at coordinate `x` of a level.
 fn meets_along(block: u16, low: u16, high: u16, level: u8, x: u16) -> bool
-    requires block { block ≤ 16 }
-    requires low { low ≤ 256 }
-    requires high { high ≤ 256 }
-    requires level { level ≤ 6 }
-    requires x { x < 1024 }
+    requires block { block ≤ widest_block }
+    requires low { low ≤ most_root_cells }
+    requires high { high ≤ most_root_cells }
+    requires level { level ≤ deepest_leaf }
+    requires x { x < most_across }
     ensures meets { result ≡ meets_along block low high level x }
 {
     let cells = 1u32 << level;
@@ -25,7 +26,7 @@ fn meets_along(block: u16, low: u16, high: u16, level: u8, x: u16) -> bool
 }
 
 fn meets_box(block: u16, low: &[u16; 3], high: &[u16; 3], place: Place) -> bool
-    requires block { block ≤ 16 }
+    requires block { block ≤ widest_block }
     requires low { IsCorner low.now }
     requires high { IsCorner high.now }
     ensures meets { result ≡ meets_box block low.now high.now place }
@@ -38,7 +39,7 @@ fn meets_box(block: u16, low: &[u16; 3], high: &[u16; 3], place: Place) -> bool
 
 /// The wish by one box for one level.
 fn box_wish(block: u16, low: &[u16; 3], high: &[u16; 3], level: u8, place: Place) -> Wish
-    requires block { block ≤ 16 }
+    requires block { block ≤ widest_block }
     requires low { IsCorner low.now }
     requires high { IsCorner high.now }
     ensures wish { result ≡ box_wish block low.now high.now level place }
@@ -57,7 +58,7 @@ fn box_wish(block: u16, low: &[u16; 3], high: &[u16; 3], level: u8, place: Place
 
 /// The wish by one test.
 fn test_wish(block: u16, test: &Test, place: Place) -> Wish
-    requires block { block ≤ 16 }
+    requires block { block ≤ widest_block }
     requires limits { (fields : ℕ) × KeepsTest fields test.now }
     ensures wish { result ≡ test_wish block test.now place }
 {
@@ -81,7 +82,7 @@ fn greater(a: Wish, b: Wish) -> Wish
 /// The wish of the leaf at `place` in a phase: the greatest of the active criteria. A block has `block` cells along
 /// its edge.
 pub fn criteria_wish(block: u16, phase: u32, criteria: &[Criterion], place: Place) -> Wish
-    requires block { block ≤ 16 }
+    requires block { block ≤ widest_block }
     requires limits { (fields : ℕ) × All (KeepsCriterion fields) criteria.now }
     ensures wish { result ≡ criteria_wish block phase criteria.now place }
 {

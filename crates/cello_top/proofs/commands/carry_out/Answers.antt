@@ -1,6 +1,8 @@
+-- Reading that fails, and then each command.
 use Rattle.std.proofs.Common.{refl, subst}
+use Rattle.std.proofs.lemmas.Result.{IfOk-weaker, IfErr-weaker}
 use Rattle.cello_top.specs.Lemmas.CommandSteps.{IsOf}
-use Rattle.cello_top.proofs.CommandEnds.{IfOk-map, IfErr-map, IfErr-both, IfErr-from, of_command, reading-ends-so, text-written, text-ends, run-written, run-ends, run-not-read}
+use Rattle.cello_top.proofs.CommandEnds.{IfErr-both, IfErr-from, of_command, reading-ends-so, text-written, text-ends, run-written, run-ends, run-not-read}
 use Rattle.cello_top.proofs.commands.carry_out.Goals as goal
 
 pub returns-in_err-params-clause-ended : goal.returns-in_err-params-clause-ended
@@ -10,7 +12,7 @@ returns-in_err-params-clause-ended g c = λ words is.
 
 pub returns-in-Check-clause-done : goal.returns-in-Check-clause-done
 returns-in-Check-clause-done g c = λ words is.
-    IfOk-map _ _ c.write_text.result
+    IfOk-weaker c.write_text.result _ _
     (λ handled h. text-written words _ _ _ _ _ c.in_ok-params.params c.in_ok-params.ensures.found (subst (λ command. IsOf command words) c.in-Check.is is) h)
     c.write_text.ensures.written
 
@@ -22,13 +24,13 @@ returns-in-Check-clause-ended g c = λ words is.
 
 pub returns-clause-done : goal.returns-clause-done
 returns-clause-done g c = λ words is.
-    IfOk-map _ _ c.run_parameters.result
+    IfOk-weaker c.run_parameters.result _ _
     (λ handled h. run-written words _ _ _ _ _ c.in_ok-params.params c.in_ok-params.ensures.found (subst (λ command. IsOf command words) c.in-Solo.is is) h)
     c.run_parameters.ensures.written
 
 pub returns-clause-ended : goal.returns-clause-ended
 returns-clause-ended g c = λ words is.
-    IfErr-map _ _ c.run_parameters.result
+    IfErr-weaker c.run_parameters.result _ _
     (λ fault h. run-ends words _ _ _ _ _ c.in_ok-params.params c.in_ok-params.ensures.found (subst (λ command. IsOf command words) c.in-Solo.is is) fault h)
     c.run_parameters.ensures.ended
 

@@ -1,3 +1,4 @@
+-- What isn't built, a sink that fails, and a limit.
 use Rattle.std.proofs.Common.{refl, sym}
 use Rattle.run_core.specs.Runs.{run_state}
 use Rattle.cello_top.specs.Lemmas.CommandSteps.{running_limit, running_sink}

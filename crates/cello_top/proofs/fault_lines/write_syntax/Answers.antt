@@ -1,3 +1,4 @@
+-- The line, piece by piece.
 use Rattle.std.proofs.Common.{subst}
 use Rattle.cello_io.specs.Writes.{Wrote}
 use Rattle.cello_top.proofs.SyntaxLines.{syntax_line-pieces}

@@ -1,3 +1,4 @@
+-- A fault of syntax, and one of parameters.
 use Rattle.std.proofs.Common.{refl, subst, inr}
 use Rattle.params_check.specs.Walks.{IsRefused}
 use Rattle.cello_top.specs.Texts.{of_parameters}

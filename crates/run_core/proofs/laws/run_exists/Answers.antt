@@ -1,3 +1,4 @@
+-- Phase by phase, up to the last or to a limit.
 use Rattle.run_core.proofs.RunExists.{run_exists}
 use Rattle.run_core.proofs.laws.run_exists.Goals as goal
 

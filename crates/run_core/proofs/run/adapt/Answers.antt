@@ -1,3 +1,4 @@
+-- The limits that end a phase.
 use Rattle.std.proofs.Common.{arith, inr}
 use Rattle.run_core.proofs.LevelLimits.{blocks-ended}
 use Rattle.run_core.proofs.run.adapt.Goals as goal

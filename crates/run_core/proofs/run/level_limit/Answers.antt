@@ -1,3 +1,4 @@
+-- A leaf that wishes past the finest level, and none.
 use Rattle.std.proofs.Common.{◌<◌, sym, ◌∙◌, length, arith, rules}
 use Rattle.std.proofs.lemmas.Bool.{false≢true}
 use Rattle.std.proofs.lemmas.Option.{slice_get-get_or}

@@ -1,3 +1,4 @@
+-- No leaf so far wishes past the finest level.
 use Rattle.std.proofs.Common.{ℕ, ◌<◌}
 use Rattle.block_index.specs.Places.{Cube}
 use Rattle.run_core.specs.Runs.{WishesTooFine}

@@ -1,3 +1,4 @@
+-- One phase more, and a run that a limit ends.
 use Rattle.std.proofs.Common.{◌+◌, arith, refl}
 use Rattle.run_core.proofs.Phases.{Runs-more, CountsPhases-more, length-more}
 use Rattle.run_core.proofs.LevelLimits.{run-limited}

@@ -1,4 +1,6 @@
+-- The phases so far.
 use Rattle.std.proofs.Common.{◌≡◌, ◌*◌, ◌≤◌, ◌^◌, length}
+use Rattle.run_core.specs.Lemmas.Bounds.{many_messages}
 use Rattle.run_core.specs.Runs.{Runs, run_state}
 use Rattle.run_core.specs.PlainCounts.{CountsPhases}
 use Rattle.run_core.proofs.run.run_phases.Given as goal
@@ -9,5 +11,5 @@ invariant-loop-round l = record {
   runs : Runs l.params l.round (run_state l.set.places l.leaves.items);
   counts : CountsPhases l.params l.round l.handled;
   phases : length l.leaves.items ≡ l.round;
-  few : l.handled ≤ l.round * 2 ^ 40;
+  few : l.handled ≤ l.round * many_messages;
 }

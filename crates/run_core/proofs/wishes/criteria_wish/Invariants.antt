@@ -1,3 +1,4 @@
+-- The greatest wish so far, and that of the criteria behind.
 use Rattle.std.proofs.Common.{◌≡◌, drop}
 use Rattle.run_core.specs.Wishes.{greater, criteria_wish}
 use Rattle.run_core.proofs.wishes.criteria_wish.Given as goal

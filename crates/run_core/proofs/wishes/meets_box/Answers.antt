@@ -1,3 +1,4 @@
+-- The coordinates of a leaf are within their bounds.
 use Rattle.std.proofs.Common.{arith}
 use Rattle.run_core.proofs.Limits.{x_below, y_below, z_below}
 use Rattle.run_core.proofs.wishes.meets_box.Goals as goal
