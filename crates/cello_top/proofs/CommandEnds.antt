@@ -1,6 +1,6 @@
 -- How a command ends, from how its steps end.
 use Rattle.std.proofs.Common.{◌≡◌, ℕ, Bool, List, Option, Some, None, Result, Ok, Err, refl, sym, ap, subst, ◌∙◌, inl, inr, append-nil}
-use Rattle.std.specs.Prelude.{IfOk, IfErr, IsErrAnd}
+use Rattle.std.specs.Prelude.{IfErr, IsErrAnd}
 use Rattle.std.specs.Io.KnownBytes.{append_known}
 use Rattle.cello_io.specs.Writes.{GrewByPart}
 use Rattle.cello_io.proofs.WriteLemmas.{append_known-nil}
@@ -16,7 +16,7 @@ use Rattle.cello_top.specs.Words.{IsSolo, IsCheck, IsCommand}
 use Rattle.cello_top.specs.Faults.{fault_of}
 use Rattle.cello_top.specs.Texts.{unbuilt}
 use Rattle.cello_top.specs.Answers.{other_text, checked, not_built, run, refusal, run_answer, text_answer, bytes_of, report}
-use Rattle.cello_top.specs.Lemmas.CommandSteps.{IsOf, call_saw, ReadParameters, ReadingEnds, reading_text, reading_source, reading_memory, AnswersRead, AnswersReadInPart, CommandEnds, command_answered, command_source, command_sink, command_memory, RanWritten, RunningEnds, running_unbuilt, running_limit, running_sink, running_memory}
+use Rattle.cello_top.specs.Lemmas.CommandSteps.{IsOf, call_saw, ReadParameters, ReadingEnds, reading_text, reading_source, reading_memory, AnswersRead, CommandEnds, command_answered, command_source, command_sink, command_memory, RanWritten, RunningEnds, running_unbuilt, running_limit, running_sink, running_memory}
 use Rattle.cello_top.proofs.FaultClasses.{text-class, text-answered, text-saw, unbuilt-class, limit-class, limit-answered, limit-saw, other-class}
 
 -- of two facts about an error

@@ -1,5 +1,5 @@
 -- Words outside the set, a command that ends well, and one that ends with a fault.
-use Rattle.std.proofs.Common.{◌≡◌, Err, refl, ap, ◌∙◌}
+use Rattle.std.proofs.Common.{Err, refl, ap}
 use Rattle.cello_top.proofs.Ends.{usage-answer, none-handled, done-answer, done-handled, done-handled_check, ends-answer, ends-part, ends-read, ends-complete, ends-complete_check}
 use Rattle.cello_top.proofs.one_thread.solo.Goals as goal
 

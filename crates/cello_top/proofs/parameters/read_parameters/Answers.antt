@@ -9,3 +9,6 @@ returns-in-Ok-clause-ended g c =
     (text-ended _ _ _ c.in-Ok.text.items c.deref.result.now c.deref.ensures.value
     (record { read = c.in-Ok.ensures.read; within = c.in-Ok.ensures.within; stopped = c.in-Ok.ensures.stopped; told = c.in-Ok.ensures.told }))
     c.parameters_of.ensures.faulty
+
+pub returns-in-Err-Failed-clause-read_most : goal.returns-in-Err-Failed-clause-read_most
+returns-in-Err-Failed-clause-read_most g c = c.in-Err-Failed.ensures.lost

@@ -1,5 +1,5 @@
 -- The phases so far.
-use Rattle.std.proofs.Common.{◌≡◌, ◌*◌, ◌≤◌, ◌^◌, length}
+use Rattle.std.proofs.Common.{◌≡◌, ◌*◌, ◌≤◌, length}
 use Rattle.run_core.specs.Lemmas.Bounds.{many_messages}
 use Rattle.run_core.specs.Runs.{Runs, run_state}
 use Rattle.run_core.specs.PlainCounts.{CountsPhases}
