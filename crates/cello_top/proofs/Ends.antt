@@ -80,9 +80,6 @@ module _ (words : List (List ℕ)) (old new : Option (List ℕ)) (ended : Bool) 
       → IfSome old (λ bytes. IsAnswered outcome.fault → Answers words bytes outcome before after)
   done-answer outcome is a = IfSome-from _ old (λ all told settled. answers None outcome is all told a)
 
-  pub done-read : AnswersRead words None (call_saw old new ended before after) → (bytes : List ℕ) × ReadOut old new ended bytes
-  done-read a = (a.bytes, a.read)
-
   module _ (fault : Fault) (outcome : Outcome) (is : outcome.fault ≡ Some fault) where
     pub ends-answer : CommandEnds words fault (call_saw old new ended before after) → IfSome old (λ bytes. IsAnswered outcome.fault → Answers words bytes outcome before after)
     ends-answer ends = IfSome-from _ old (λ all told settled. go all told ends (subst IsAnswered is settled))
@@ -118,15 +115,6 @@ module _ (words : List (List ℕ)) (old new : Option (List ℕ)) (ended : Bool) 
         go (command_source e) saw = absurd (subst (λ (f : Fault). SawText (Some f)) e saw)
         go (command_sink e a) saw = (a.bytes, a.read)
         go (command_memory e) saw = absurd (subst (λ (f : Fault). SawText (Some f)) e saw)
-
-    pub ends-not-usage : CommandEnds words fault (call_saw old new ended before after) → outcome.fault ≡ Some Usage → ⊥
-    ends-not-usage ends usage = go ends (failed_is Usage usage)
-      where
-        go : CommandEnds words fault (call_saw old new ended before after) → fault ≡ Usage → ⊥
-        go (command_answered settles seen a) e = subst (λ (f : Fault). SawText (Some f)) e seen
-        go (command_source h) e = cc
-        go (command_sink h a) e = cc
-        go (command_memory h) e = cc
 
     -- an end without a fault where the answer to all has none
     module _ (read_rose write_rose : Type 0) (read_cause : fault ≡ ReadFault → read_rose) (write_cause : fault ≡ WriteFault → write_rose) where

@@ -12,7 +12,7 @@ use Rattle.cello_top.specs.declared.fault.Fault.{Fault}
 use Rattle.cello_top.specs.declared.fault.Fault.TheVariants.{Unbuilt}
 use Rattle.cello_top.specs.declared.fault_class.FaultClass.{FaultClass}
 use Rattle.cello_top.specs.declared.fault_class.FaultClass.TheVariants.{Text, Limit}
-use Rattle.cello_top.specs.Faults.{class_of, class_ending, fault_of, IsAnswered, SawText, CameToWrite}
+use Rattle.cello_top.specs.Faults.{class_of, class_ending, fault_of, IsAnswered, SawText}
 use Rattle.cello_top.specs.Texts.{HasTextFault, of_syntax, of_parameters, looks_at_field, unbuilt, unbuilt_file}
 
 pub text-class : (text : List ℕ) (f : Fault) → HasTextFault text f → class_of f ≡ Text
@@ -74,6 +74,3 @@ limit-answered f is = subst (λ (k : FaultClass). T (class_ending k).answered) (
 
 pub limit-saw : (f : Fault) → class_of f ≡ Limit → SawText (Some f)
 limit-saw f is = subst (λ (k : FaultClass). T (class_ending k).saw_text) (sym is) tt
-
-pub limit-wrote : (f : Fault) → class_of f ≡ Limit → CameToWrite (Some f)
-limit-wrote f is = subst (λ (k : FaultClass). T (class_ending k).wrote) (sym is) tt
