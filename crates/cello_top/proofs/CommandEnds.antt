@@ -1,25 +1,28 @@
 -- How a command ends, from how its steps end.
 use Rattle.std.proofs.Common.{◌≡◌, ℕ, Bool, List, Option, Some, None, Result, Ok, Err, refl, sym, ap, subst, ◌∙◌, inl, inr, append-nil}
-use Rattle.std.specs.Prelude.{IfOk, IfErr, IsErrAnd}
+use Rattle.std.specs.Prelude.{IfErr, IsErrAnd}
 use Rattle.std.specs.Io.KnownBytes.{append_known}
 use Rattle.cello_io.specs.Writes.{GrewByPart}
 use Rattle.cello_io.proofs.WriteLemmas.{append_known-nil}
 use Rattle.params_check.specs.Parameters.{Parameters}
+use Rattle.run_core.specs.declared.fault.RunFault.{RunFault}
+use Rattle.run_core.specs.Runs.{RunState, RunEnds}
 use Rattle.cello_top.specs.declared.fault.Fault.{Fault}
-use Rattle.cello_top.specs.declared.fault.Fault.TheVariants.{Usage, Syntax, Param, Unbuilt, LevelLimit, BlockLimit, ReadFault, WriteFault, Memory}
+use Rattle.cello_top.specs.declared.fault.Fault.TheVariants.{ReadFault, WriteFault}
+use Rattle.cello_top.specs.declared.fault_class.FaultClass.TheVariants.{Text, Limit}
 use Rattle.cello_top.specs.declared.words.Command.{Command}
 use Rattle.cello_top.specs.declared.words.Command.TheVariants.{Solo, Check}
 use Rattle.cello_top.specs.Words.{IsSolo, IsCheck, IsCommand}
-use Rattle.cello_top.specs.Answers.{other_text, checked, not_built, run, refusal, run_answer, text_answer}
-use Rattle.cello_top.specs.Steps.{IsOf, ReadParameters, ReadFaulty, ReadingEnds, Decided, DecidedInPart, CommandEnds, RanWritten, RunningEnds}
+use Rattle.cello_top.specs.Faults.{fault_of}
+use Rattle.cello_top.specs.Texts.{unbuilt}
+use Rattle.cello_top.specs.Answers.{other_text, checked, not_built, run, refusal, run_answer, text_answer, bytes_of, report}
+use Rattle.cello_top.specs.Lemmas.CommandSteps.{IsOf, call_saw, ReadParameters, ReadingEnds, reading_text, reading_source, reading_memory, AnswersRead, CommandEnds, command_answered, command_source, command_sink, command_memory, RanWritten, RunningEnds, running_unbuilt, running_limit, running_sink, running_memory}
+use Rattle.cello_top.proofs.FaultClasses.{text-class, text-answered, text-saw, unbuilt-class, limit-class, limit-answered, limit-saw, other-class}
 
-pub IfOk-map : {A E : Type 0} (P Q : A → Type 0) (r : Result A E) → ((x : A) → P x → Q x) → IfOk r P → IfOk r Q
-IfOk-map P Q (Ok x) go is = go x is
-IfOk-map P Q (Err e) go is = is
-
-pub IfErr-map : {A E : Type 0} (P Q : E → Type 0) (r : Result A E) → ((x : E) → P x → Q x) → IfErr r P → IfErr r Q
-IfErr-map P Q (Ok x) go is = is
-IfErr-map P Q (Err e) go is = go e is
+-- of two facts about an error
+pub IfErr-both : {A E : Type 0} (P Q R : E → Type 0) (r : Result A E) → ((x : E) → P x → Q x → R x) → IfErr r P → IfErr r Q → IfErr r R
+IfErr-both P Q R (Ok x) go is too = is
+IfErr-both P Q R (Err e) go is too = go e is too
 
 -- a result that is an error for this reason
 pub IfErr-from : {A E : Type 0} (Q P : E → Type 0) (r : Result A E) → IsErrAnd r Q → ((x : E) → Q x → P x) → IfErr r P
@@ -30,103 +33,115 @@ pub of_command : (command : Command) (words : List (List ℕ)) → IsOf command 
 of_command Solo words is = inl is
 of_command Check words is = inr is
 
-module _ (words : List (List ℕ)) (old new : Option (List ℕ)) (ended : Bool) (before after : Option (List ℕ)) (read_rose write_rose unwritten : Type 0) where
-  faulty : (set : IsCommand words) (f : Fault) → ReadFaulty old new ended f → after ≡ before → Decided words (Some f) 0 old new ended before after
-  faulty set f r same = record {
-    bytes = r.bytes;
-    read = r.read;
-    answer = refusal f;
-    is = other_text f set r.faulty refl;
-    same_fault = refl;
-    same_handled = refl;
-    written = same ∙ sym (append_known-nil before);
-  }
-
+module _ (words : List (List ℕ)) (old new : Option (List ℕ)) (ended : Bool) (before after : Option (List ℕ)) where
   -- reading ended otherwise than well, and then nothing was written
-  pub reading-ends : IsCommand words → (fault : Fault) → ReadingEnds fault old new ended read_rose → after ≡ before → unwritten
-      → CommandEnds words (Some fault) 0 old new ended before after read_rose write_rose unwritten
-  reading-ends set Usage ends same un = absurd ends
-  reading-ends set (Syntax f) ends same un = (faulty set (Syntax f) ends same, un)
-  reading-ends set (Param f) ends same un = (faulty set (Param f) ends same, un)
-  reading-ends set (Unbuilt group key) ends same un = absurd ends
-  reading-ends set (LevelLimit phase place) ends same un = absurd ends
-  reading-ends set (BlockLimit phase count limit) ends same un = absurd ends
-  reading-ends set ReadFault ends same un = (ends, un)
-  reading-ends set WriteFault ends same un = absurd ends
-  reading-ends set Memory ends same un = un
+  pub reading-ends : IsCommand words → after ≡ before → (fault : Fault) → ReadingEnds old new ended fault → CommandEnds words fault (call_saw old new ended before after)
+  reading-ends set same fault (reading_text bytes read faulty) =
+      command_answered (text-answered fault (text-class bytes fault faulty)) (text-saw fault (text-class bytes fault faulty)) (record {
+        bytes = bytes;
+        read = read;
+        answer = refusal fault;
+        is = other_text fault set faulty refl;
+        same_fault = refl;
+        written = same ∙ sym (append_known-nil before);
+      })
+  reading-ends set same fault (reading_source e) = command_source e
+  reading-ends set same fault (reading_memory e) = command_memory e
 
-  pub reading-ends-so : IsCommand words → (fault found : Fault) → fault ≡ found → ReadingEnds found old new ended read_rose → after ≡ before → unwritten
-      → CommandEnds words (Some fault) 0 old new ended before after read_rose write_rose unwritten
-  reading-ends-so set fault found e ends same un = reading-ends set fault (subst (λ f. ReadingEnds f old new ended read_rose) (sym e) ends) same un
+  pub reading-ends-so : IsCommand words → after ≡ before → (fault found : Fault) → fault ≡ found → ReadingEnds old new ended found
+      → CommandEnds words fault (call_saw old new ended before after)
+  reading-ends-so set same fault found e ends = reading-ends set same fault (subst (ReadingEnds old new ended) (sym e) ends)
 
   module _ (p : Parameters) (r : ReadParameters old new ended p) where
-    pub text-written : IsCheck words → (handled : ℕ) → (handled ≡ 0) × (after ≡ append_known before p.text)
-        → CommandEnds words None handled old new ended before after read_rose write_rose unwritten
-    text-written check handled h = record {
+    pub text-written : IsCheck words → after ≡ append_known before p.text → AnswersRead words None (call_saw old new ended before after)
+    text-written check written = record {
       bytes = r.bytes;
       read = r.read;
       answer = text_answer p;
       is = checked p check r.parameters refl;
       same_fault = refl;
-      same_handled = h.0;
-      written = h.1 ∙ ap (append_known before) (sym (append-nil p.text));
+      written = written ∙ ap (append_known before) (sym (append-nil p.text));
     }
 
-    pub text-ends : IsCheck words → (fault : Fault) → (fault ≡ WriteFault) × write_rose × GrewByPart before after p.text
-        → CommandEnds words (Some fault) 0 old new ended before after read_rose write_rose unwritten
-    text-ends check fault h =
-        let part : DecidedInPart words old new ended before after = record {
+    pub text-ends : IsCheck words → (fault : Fault) → fault ≡ WriteFault → GrewByPart before after p.text → CommandEnds words fault (call_saw old new ended before after)
+    text-ends check fault failed part =
+        command_sink failed (record {
           bytes = r.bytes;
           read = r.read;
           answer = text_answer p;
           is = checked p check r.parameters refl;
-          part = subst (GrewByPart before after) (sym (append-nil p.text)) h.2;
-        } in
-        subst (λ f. CommandEnds words (Some f) 0 old new ended before after read_rose write_rose unwritten) (sym h.0) (h.1, part)
+          part = subst (GrewByPart before after) (sym (append-nil p.text)) part;
+        })
 
-    ran : IsSolo words → (limit : Option Fault) (handled : ℕ) → RanWritten p limit handled before after → Decided words limit handled old new ended before after
-    ran solo limit handled h = record {
+    pub run-written : IsSolo words → RanWritten p None before after → AnswersRead words None (call_saw old new ended before after)
+    run-written solo h = record {
       bytes = r.bytes;
       read = r.read;
-      answer = run_answer h.state limit;
-      is = run p h.state limit solo r.parameters h.built h.ends refl;
+      answer = run_answer h.state None;
+      is = run p h.state None solo r.parameters h.built h.ends refl;
       same_fault = refl;
-      same_handled = h.count;
       written = h.written;
     }
 
-    pub run-written : IsSolo words → (handled : ℕ) → RanWritten p None handled before after
-        → CommandEnds words None handled old new ended before after read_rose write_rose unwritten
-    run-written solo handled h = ran solo None handled h
+    limit-ends : IsSolo words → (limit : RunFault) → RanWritten p (Some limit) before after → CommandEnds words (fault_of limit) (call_saw old new ended before after)
+    limit-ends solo limit h =
+        let is = limit-class p h.state limit h.ends in
+        command_answered (limit-answered (fault_of limit) is) (limit-saw (fault_of limit) is) (record {
+          bytes = r.bytes;
+          read = r.read;
+          answer = run_answer h.state (Some limit);
+          is = run p h.state (Some limit) solo r.parameters h.built h.ends refl;
+          same_fault = refl;
+          written = h.written;
+        })
 
-    pub run-ends : IsSolo words → (unwritten → after ≡ before) → (fault : Fault) → RunningEnds p fault before after write_rose unwritten
-        → CommandEnds words (Some fault) 0 old new ended before after read_rose write_rose unwritten
-    run-ends solo same Usage ends = absurd ends
-    run-ends solo same (Syntax f) ends = absurd ends
-    run-ends solo same (Param f) ends = absurd ends
-    run-ends solo same (Unbuilt group key) ends = (
-      record {
-        bytes = r.bytes;
-        read = r.read;
-        answer = refusal (Unbuilt group key);
-        is = not_built p (Unbuilt group key) solo r.parameters ends.0 refl;
-        same_fault = refl;
-        same_handled = refl;
-        written = same ends.1 ∙ sym (append_known-nil before);
-      },
-      ends.1,
-    )
-    run-ends solo same (LevelLimit phase place) ends = ran solo (Some (LevelLimit phase place)) 0 ends
-    run-ends solo same (BlockLimit phase count limit) ends = ran solo (Some (BlockLimit phase count limit)) 0 ends
-    run-ends solo same ReadFault ends = absurd ends
-    run-ends solo same WriteFault ends = (
-      ends.0,
-      record {
-        bytes = r.bytes;
-        read = r.read;
-        answer = run_answer ends.1.state ends.1.limit;
-        is = run p ends.1.state ends.1.limit solo r.parameters ends.1.built ends.1.ends refl;
-        part = ends.1.part;
-      },
-    )
-    run-ends solo same Memory ends = ends
+    pub run-ends : IsSolo words → (fault : Fault) → RunningEnds p before after fault → CommandEnds words fault (call_saw old new ended before after)
+    run-ends solo fault (running_unbuilt some same) =
+        command_answered (text-answered fault (unbuilt-class p fault some)) (text-saw fault (unbuilt-class p fault some)) (record {
+          bytes = r.bytes;
+          read = r.read;
+          answer = refusal fault;
+          is = not_built p fault solo r.parameters some refl;
+          same_fault = refl;
+          written = same ∙ sym (append_known-nil before);
+        })
+    run-ends solo fault (running_limit limit e h) = subst (λ (f : Fault). CommandEnds words f (call_saw old new ended before after)) (sym e) (limit-ends solo limit h)
+    run-ends solo fault (running_sink e h) =
+        command_sink e (record {
+          bytes = r.bytes;
+          read = r.read;
+          answer = run_answer h.state h.limit;
+          is = run p h.state h.limit solo r.parameters h.built h.ends refl;
+          part = h.part;
+        })
+    run-ends solo fault (running_memory e) = command_memory e
+
+-- a run that a limit ended
+pub ran-limited : (p : Parameters) (before after : Option (List ℕ)) (s : RunState) (found : Option RunFault) (limit : RunFault) → found ≡ Some limit
+    → unbuilt p ≡ None → RunEnds p s found → after ≡ append_known before (bytes_of (report s found)) → RanWritten p (Some limit) before after
+ran-limited p before after s found limit is built ends written = record {
+  built = built;
+  state = s;
+  ends = subst (RunEnds p s) is ends;
+  written = written ∙ ap (λ (o : Option RunFault). append_known before (bytes_of (report s o))) is;
+}
+
+-- what isn't built is no fault of the sink
+pub unbuilt-not-write : (p : Parameters) (f : Fault) → unbuilt p ≡ Some f → (r : Result ℕ Fault) → r ≡ Err f → r ≡ Err WriteFault → ⊥
+unbuilt-not-write p f some r is e =
+    let same : f ≡ WriteFault = cc in
+    other-class f WriteFault Text (unbuilt-class p f some) (λ h. cc) same
+
+-- what a run ends by isn't the source
+running-not-read : (p : Parameters) (before after : Option (List ℕ)) (fault : Fault) → RunningEnds p before after fault → fault ≡ ReadFault → ⊥
+running-not-read p before after fault (running_unbuilt some same) e = other-class fault ReadFault Text (unbuilt-class p fault some) (λ h. cc) e
+running-not-read p before after fault (running_limit limit is h) e =
+    other-class (fault_of limit) ReadFault Limit (limit-class p h.state limit h.ends) (λ h. cc) (sym is ∙ e)
+running-not-read p before after fault (running_sink is h) e = cc
+running-not-read p before after fault (running_memory is) e = cc
+
+pub run-not-read : (p : Parameters) (before after : Option (List ℕ)) (r : Result ℕ Fault) → IfErr r (RunningEnds p before after) → r ≡ Err ReadFault → ⊥
+run-not-read p before after (Ok n) ends e = cc
+run-not-read p before after (Err f) ends e =
+    let same : f ≡ ReadFault = cc in
+    running-not-read p before after f ends same

@@ -1,14 +1,10 @@
-mod Limits
+-- Lemmas by subject.
 mod OneWord
-mod Greater
-mod LevelLimits
+mod FaultClasses
 mod TextEnds
-mod RunEnds
 mod Pieces
-mod Phases
 mod Texts
-mod PhaseMeshes
 mod OneAnswer
-mod Ends
 mod CommandEnds
+mod Ends
 mod AnswerExists

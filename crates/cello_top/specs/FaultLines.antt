@@ -1,5 +1,5 @@
--- The line of each fault, and its status.
-use Rattle.std.specs.Prelude.{ℕ, List, ◌++◌, codes, decimal, Option, Some, None}
+-- The line of each fault.
+use Rattle.std.specs.Prelude.{ℕ, List, ◌++◌, codes, decimal}
 use Rattle.block_index.specs.Places.{Cube}
 use Rattle.text_line.specs.Shown.{shown_name, shown_place}
 use Rattle.params_syntax.specs.declared.fault.SyntaxFault.{SyntaxFault}
@@ -71,16 +71,3 @@ fault_line (BlockLimit phase count limit) = block_limit_line phase count limit
 fault_line ReadFault = read_line
 fault_line WriteFault = write_line
 fault_line Memory = memory_line
-
--- the exit status of an outcome
-abbrev pub status_of : Option Fault → ℕ
-status_of None = 0
-status_of (Some Usage) = 1
-status_of (Some (Syntax fault)) = 2
-status_of (Some (Param fault)) = 2
-status_of (Some (Unbuilt group key)) = 2
-status_of (Some (LevelLimit phase place)) = 3
-status_of (Some (BlockLimit phase count limit)) = 3
-status_of (Some ReadFault) = 4
-status_of (Some WriteFault) = 4
-status_of (Some Memory) = 5

@@ -1,9 +1,8 @@
+-- What contracts of the commands cite. `Lemmas` is for the proofs alone.
 pub mod Words
+pub mod Faults
 pub mod FaultLines
-pub mod Wishes
 pub mod Texts
-pub mod Runs
 pub mod Answers
 pub mod Solo
-pub mod Steps
-pub mod Phases
+pub mod Lemmas

@@ -1,20 +1,23 @@
 //! What each command does.
-ghost use Rattle.std.specs.Prelude.{◌≡◌, ℕ, ◌≤◌, List, None, Some, IfOk, IfErr};
-ghost use Rattle.cello_io.specs.Counts.{Rose};
+ghost use Rattle.std.specs.Prelude.{◌≡◌, ℕ, ◌≤◌, List, None, Some, IfOk, IfErr, IsErrOf};
 ghost use Rattle.std.specs.Io.KnownBytes.{append_known};
+ghost use Rattle.cello_io.specs.Counts.{Rose};
+ghost use Rattle.cello_io.specs.Reads.{LostAtMost};
 ghost use Rattle.cello_io.specs.Writes.{GrewByPart};
-ghost use Rattle.cello_top.specs.Steps.{CommandEnds, IsOf, RanWritten, RunningEnds};
-ghost use Rattle.cello_top.specs.declared.words.Command.TheVariants.{Solo, Check};
+ghost use Rattle.run_core.specs.PlainCounts.{HandlesPlainly};
+ghost use Rattle.cello_top.specs.Faults.{CameToWrite};
+ghost use Rattle.cello_top.specs.Solo.{read_limit};
+ghost use Rattle.cello_top.specs.Lemmas.CommandSteps.{IsOf, call_saw, AnswersRead, CommandEnds, CommandHandles, RanWritten, RunningEnds};
 
 use crate::fault::Fault;
 use crate::parameters::read_parameters;
 use crate::report::write_report;
-use crate::run::{Run, run_phases};
 use crate::unbuilt::unbuilt;
 use crate::words::Command;
 use cello_io::{Failed, Sink, Source, write_all};
 use cello_num::Memory;
 use params_check::Params;
+use run_core::{Run, run_phases};
 use std::alloc::Global;
 
 /// Carries a command out. It answers how many messages were handled.
@@ -24,14 +27,16 @@ pub fn carry_out<S: Source, K: Sink>(
     source: &mut S,
     sink: &mut K,
 ) -> Result<u64, Fault>
-    ensures done { (words : List (List ℕ)) → IsOf command words → IfOk result (λ handled. CommandEnds words None handled
-        (S.left source.old) (S.left source.new) (S.has_ended source.new) (K.written sink.old) (K.written sink.new)
-        (Rose (S.read_faults source.old) (S.read_faults source.new))
-        (Rose (K.write_faults sink.old) (K.write_faults sink.new)) (sink.new ≡ sink.old)) }
-    ensures ended { (words : List (List ℕ)) → IsOf command words → IfErr result (λ fault. CommandEnds words (Some fault) 0
-        (S.left source.old) (S.left source.new) (S.has_ended source.new) (K.written sink.old) (K.written sink.new)
-        (Rose (S.read_faults source.old) (S.read_faults source.new))
-        (Rose (K.write_faults sink.old) (K.write_faults sink.new)) (sink.new ≡ sink.old)) }
+    ensures done { (words : List (List ℕ)) → IsOf command words → IfOk result (λ _. AnswersRead words None
+        (call_saw (S.left source.old) (S.left source.new) (S.has_ended source.new) (K.written sink.old) (K.written sink.new))) }
+    ensures ended { (words : List (List ℕ)) → IsOf command words → IfErr result (λ fault. CommandEnds words fault
+        (call_saw (S.left source.old) (S.left source.new) (S.has_ended source.new) (K.written sink.old) (K.written sink.new))) }
+    ensures handled { IfOk result (λ handled.
+        CommandHandles command (S.left source.old) (S.left source.new) (S.has_ended source.new) handled) }
+    ensures unwritten { IfErr result (λ fault. (CameToWrite (Some fault) → ⊥) → sink.new ≡ sink.old) }
+    ensures read_most { LostAtMost read_limit (S.left source.old) (S.left source.new) }
+    ensures read_cause { IsErrOf result Fault.ReadFault → Rose (S.read_faults source.old) (S.read_faults source.new) }
+    ensures write_cause { IsErrOf result Fault.WriteFault → Rose (K.write_faults sink.old) (K.write_faults sink.new) }
     ensures same_rest { K.rest sink.new ≡ K.rest sink.old }
     ensures read_faults { S.read_faults source.old ≤ S.read_faults source.new }
     ensures write_faults { K.write_faults sink.old ≤ K.write_faults sink.new }
@@ -45,9 +50,11 @@ pub fn carry_out<S: Source, K: Sink>(
 
 /// Writes the canonical text.
 fn write_text<K: Sink>(params: &Params, sink: &mut K) -> Result<u64, Fault>
-    ensures done { IfOk result (λ handled. (handled ≡ 0) × (K.written sink.new ≡ append_known (K.written sink.old) params.now.text)) }
-    ensures ended { IfErr result (λ fault. (fault ≡ Fault.WriteFault) × Rose (K.write_faults sink.old) (K.write_faults sink.new)
-        × GrewByPart (K.written sink.old) (K.written sink.new) params.now.text) }
+    ensures written { IfOk result (λ _. K.written sink.new ≡ append_known (K.written sink.old) params.now.text) }
+    ensures handled { IfOk result (λ handled. handled ≡ 0) }
+    ensures ended { IfErr result (λ fault. fault ≡ Fault.WriteFault) }
+    ensures part { IfErr result (λ _. GrewByPart (K.written sink.old) (K.written sink.new) params.now.text) }
+    ensures write_cause { IfErr result (λ _. Rose (K.write_faults sink.old) (K.write_faults sink.new)) }
     ensures same_rest { K.rest sink.new ≡ K.rest sink.old }
     ensures write_faults { K.write_faults sink.old ≤ K.write_faults sink.new }
 {
@@ -59,9 +66,11 @@ fn write_text<K: Sink>(params: &Params, sink: &mut K) -> Result<u64, Fault>
 
 /// Runs the parameters and writes the report.
 fn run_parameters<K: Sink>(alloc: Global, params: &Params, sink: &mut K) -> Result<u64, Fault>
-    ensures done { IfOk result (λ handled. RanWritten params.now None handled (K.written sink.old) (K.written sink.new)) }
-    ensures ended { IfErr result (λ fault. RunningEnds params.now fault (K.written sink.old) (K.written sink.new)
-        (Rose (K.write_faults sink.old) (K.write_faults sink.new)) (sink.new ≡ sink.old)) }
+    ensures written { IfOk result (λ _. RanWritten params.now None (K.written sink.old) (K.written sink.new)) }
+    ensures handled { IfOk result (λ handled. HandlesPlainly params.now handled) }
+    ensures ended { IfErr result (RunningEnds params.now (K.written sink.old) (K.written sink.new)) }
+    ensures unwritten { IfErr result (λ fault. (CameToWrite (Some fault) → ⊥) → sink.new ≡ sink.old) }
+    ensures write_cause { IsErrOf result Fault.WriteFault → Rose (K.write_faults sink.old) (K.write_faults sink.new) }
     ensures same_rest { K.rest sink.new ≡ K.rest sink.old }
     ensures write_faults { K.write_faults sink.old ≤ K.write_faults sink.new }
 {
@@ -77,7 +86,7 @@ fn run_parameters<K: Sink>(alloc: Global, params: &Params, sink: &mut K) -> Resu
     }
     let Run { limit, handled, .. } = run;
     match limit {
-        Some(fault) => Err(fault),
+        Some(limit) => Err(Fault::from(limit)),
         None => Ok(handled),
     }
 }

@@ -1,9 +1,13 @@
 //! Why a call ended otherwise than well.
+ghost use Rattle.std.specs.Prelude.{◌≡◌};
+ghost use Rattle.cello_top.specs.Faults.{class_of, fault_of};
 
+use crate::fault_class::FaultClass;
 use block_index::Place;
 use cello_num::Name;
 use params_check::ParamFault;
 use params_syntax::SyntaxFault;
+use run_core::RunFault;
 
 /// Why a call ended otherwise than well.
 #[derive(Debug, Clone, Copy, PartialEq, Eq)]
@@ -26,4 +30,40 @@ pub enum Fault {
     WriteFault,
     /// Memory was refused.
     Memory,
+}
+
+impl Fault {
+    /// What the fault comes from.
+    pub(crate) fn class(&self) -> FaultClass
+        ensures class { result ≡ class_of self.now }
+    {
+        match self {
+            Fault::Usage => FaultClass::Words,
+            Fault::Syntax(_) | Fault::Param(_) | Fault::Unbuilt { .. } => FaultClass::Text,
+            Fault::LevelLimit { .. } | Fault::BlockLimit { .. } => FaultClass::Limit,
+            Fault::ReadFault => FaultClass::Source,
+            Fault::WriteFault => FaultClass::Sink,
+            Fault::Memory => FaultClass::Allocator,
+        }
+    }
+}
+
+impl From<RunFault> for Fault {
+    ghost from_gives = { λ run fault. fault ≡ fault_of run };
+
+    fn from(run: RunFault) -> Fault {
+        match run {
+            RunFault::LevelLimit { phase, place } => Fault::LevelLimit { phase, place },
+            RunFault::BlockLimit {
+                phase,
+                count,
+                limit,
+            } => Fault::BlockLimit {
+                phase,
+                count,
+                limit,
+            },
+            RunFault::Memory => Fault::Memory,
+        }
+    }
 }

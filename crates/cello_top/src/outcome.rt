@@ -1,6 +1,6 @@
 //! How a call ended.
 ghost use Rattle.std.specs.Prelude.{◌≡◌, None, Some};
-ghost use Rattle.cello_top.specs.FaultLines.{status_of};
+ghost use Rattle.cello_top.specs.Faults.{status_of};
 
 use crate::fault::Fault;
 
@@ -32,15 +32,8 @@ impl Outcome {
         ensures status { result.status ≡ status_of (Some fault) }
         ensures handled { result.handled ≡ 0 }
     {
-        let status = match fault {
-            Fault::Usage => 1,
-            Fault::Syntax(_) | Fault::Param(_) | Fault::Unbuilt { .. } => 2,
-            Fault::LevelLimit { .. } | Fault::BlockLimit { .. } => 3,
-            Fault::ReadFault | Fault::WriteFault => 4,
-            Fault::Memory => 5,
-        };
         Outcome {
-            status,
+            status: fault.class().status(),
             fault: Some(fault),
             handled: 0,
         }

@@ -2,7 +2,7 @@
 ghost use Rattle.std.specs.Prelude.{◌≡◌, ◌↔◌, IfSome, IsNone, map};
 ghost use Rattle.std.specs.String.{string_bytes};
 ghost use Rattle.cello_top.specs.Words.{IsCommand};
-ghost use Rattle.cello_top.specs.Steps.{IsOf};
+ghost use Rattle.cello_top.specs.Lemmas.CommandSteps.{IsOf};
 
 /// What the program can be asked to do.
 #[derive(Debug, Clone, Copy, PartialEq, Eq)]

@@ -1,3 +1,4 @@
+-- There is one.
 use Rattle.cello_top.proofs.AnswerExists.{answer_exists}
 use Rattle.cello_top.proofs.laws.answer_exists.Goals as goal
 

@@ -1,3 +1,4 @@
+-- There is no other.
 use Rattle.cello_top.proofs.OneAnswer.{IsAnswer-one}
 use Rattle.cello_top.proofs.laws.one_answer.Goals as goal
 

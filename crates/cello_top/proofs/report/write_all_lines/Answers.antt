@@ -1,3 +1,4 @@
+-- The opening lines, and then the closing ones.
 use Rattle.cello_top.proofs.Pieces.{Wrote-from_err, report-less, report-then}
 use Rattle.cello_top.proofs.report.write_all_lines.Goals as goal
 

@@ -1,3 +1,4 @@
+-- The line of the cycle, and then the list.
 use Rattle.cello_top.proofs.Pieces.{Wrote-from_err, closing-less, closing-then}
 use Rattle.cello_top.proofs.report.write_closing.Goals as goal
 

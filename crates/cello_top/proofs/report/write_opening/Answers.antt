@@ -1,3 +1,4 @@
+-- The first line, and then those of the phases.
 use Rattle.cello_top.proofs.Pieces.{Wrote-from_err, opening-less, opening-then}
 use Rattle.cello_top.proofs.report.write_opening.Goals as goal
 

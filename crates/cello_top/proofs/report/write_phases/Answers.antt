@@ -1,3 +1,4 @@
+-- One line more, and a line that fails.
 use Rattle.std.proofs.Common.{arith, ◌∙◌, get_or, refl}
 use Rattle.cello_top.proofs.Pieces.{Wrote-from_err, phase_lines-within, phase_lines-more}
 use Rattle.cello_top.proofs.report.write_phases.Goals as goal

@@ -1,3 +1,4 @@
+-- The lines so far.
 use Rattle.std.proofs.Common.{◌≡◌, ◌+◌, ◌≤◌, take}
 use Rattle.std.specs.Io.KnownBytes.{append_known}
 use Rattle.cello_top.specs.Answers.{phase_lines, bytes_of}

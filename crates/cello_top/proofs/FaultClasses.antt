@@ -1,0 +1,76 @@
+-- What the faults of texts, of what isn't built and of runs come from.
+use Rattle.std.proofs.Common.{◌≡◌, ℕ, suc, List, Bool, true, false, Option, Some, None, cond, length, refl, sym, ap, subst, ◌∙◌}
+use Rattle.std.proofs.lemmas.Option.{same_Some, none-some}
+use Rattle.std.specs.List.{list_any}
+use Rattle.std.specs.Prelude.{codes, nat_lt, T}
+use Rattle.block_index.specs.Places.{Cube}
+use Rattle.params_check.specs.declared.criterion.Criterion.{Criterion}
+use Rattle.params_check.specs.Parameters.{Parameters}
+use Rattle.run_core.specs.declared.fault.RunFault.{RunFault}
+use Rattle.run_core.specs.Runs.{RunState, PassesLimit, of_level, of_blocks, RunEnds, after_all, at_limit}
+use Rattle.cello_top.specs.declared.fault.Fault.{Fault}
+use Rattle.cello_top.specs.declared.fault.Fault.TheVariants.{Unbuilt}
+use Rattle.cello_top.specs.declared.fault_class.FaultClass.{FaultClass}
+use Rattle.cello_top.specs.declared.fault_class.FaultClass.TheVariants.{Text, Limit}
+use Rattle.cello_top.specs.Faults.{class_of, class_ending, fault_of, IsAnswered, SawText}
+use Rattle.cello_top.specs.Texts.{HasTextFault, of_syntax, of_parameters, looks_at_field, unbuilt, unbuilt_file}
+
+pub text-class : (text : List ℕ) (f : Fault) → HasTextFault text f → class_of f ≡ Text
+text-class text f (of_syntax x a e) = ap class_of e
+text-class text f (of_parameters groups x a r e) = ap class_of e
+
+-- nothing, or a fault of the text
+abbrev IsOfText : Option Fault → Type 0
+IsOfText None = Unit {0}
+IsOfText (Some f) = class_of f ≡ Text
+
+chosen : (b : Bool) (group key : List ℕ) (rest : Option Fault) → IsOfText rest → IsOfText (cond b (Some (Unbuilt group key)) rest)
+chosen true group key rest is = refl
+chosen false group key rest is = is
+
+file-IsOfText : (p : Parameters) → IsOfText (unbuilt_file p)
+unfolding unbuilt_file
+file-IsOfText p =
+    let third : Option Fault = cond (nat_lt 0 p.checkpoint_every) (Some (Unbuilt (codes "Output") (codes "checkpoint"))) None in
+    let second : Option Fault = cond (nat_lt 0 p.fields_every) (Some (Unbuilt (codes "Output") (codes "fields"))) third in
+    let last : IsOfText third = chosen (nat_lt 0 p.checkpoint_every) (codes "Output") (codes "checkpoint") None tt in
+    let middle : IsOfText second = chosen (nat_lt 0 p.fields_every) (codes "Output") (codes "fields") third last in
+    chosen (nat_lt 0 p.mesh_every) (codes "Output") (codes "mesh") second middle
+
+unbuilt-IsOfText : (p : Parameters) → IsOfText (unbuilt p)
+unfolding unbuilt
+unbuilt-IsOfText p =
+    let third : Option Fault = cond (nat_lt 0 p.cycles) (Some (Unbuilt (codes "Method") (codes "cycles"))) (unbuilt_file p) in
+    let samples : Bool = list_any (λ (k : Criterion). looks_at_field k.test) p.criteria in
+    let second : Option Fault = cond samples (Some (Unbuilt (codes "Adapt") (codes "type"))) third in
+    let last : IsOfText third = chosen (nat_lt 0 p.cycles) (codes "Method") (codes "cycles") (unbuilt_file p) (file-IsOfText p) in
+    let middle : IsOfText second = chosen samples (codes "Adapt") (codes "type") third last in
+    chosen (nat_lt 0 (length p.fields)) (codes "Field") (codes "names") second middle
+
+pub unbuilt-class : (p : Parameters) (f : Fault) → unbuilt p ≡ Some f → class_of f ≡ Text
+unbuilt-class p f e = subst IsOfText e (unbuilt-IsOfText p)
+
+-- the limit that ends a run
+pub limit-class : (p : Parameters) (s : RunState) (limit : RunFault) → RunEnds p s (Some limit) → class_of (fault_of limit) ≡ Limit
+limit-class p s limit (after_all runs none) = absurd (none-some limit (sym none))
+limit-class p s limit (at_limit phases f below runs passes is) = passed (suc phases) s.mesh f passes (same_Some limit f is)
+  where
+    passed : (phase : ℕ) (mesh : List Cube) (f : RunFault) → PassesLimit p phase mesh f → limit ≡ f → class_of (fault_of limit) ≡ Limit
+    passed phase mesh f (of_level i place strict too none e) same = ap (λ (l : RunFault). class_of (fault_of l)) (same ∙ e)
+    passed phase mesh f (of_blocks levels keeps least many e) same = ap (λ (l : RunFault). class_of (fault_of l)) (same ∙ e)
+
+-- a fault of one class is none of another
+pub other-class : (f g : Fault) (k : FaultClass) → class_of f ≡ k → (k ≡ class_of g → ⊥) → f ≡ g → ⊥
+other-class f g k is other same = other (sym is ∙ ap class_of same)
+
+pub text-answered : (f : Fault) → class_of f ≡ Text → IsAnswered (Some f)
+text-answered f is = subst (λ (k : FaultClass). T (class_ending k).answered) (sym is) tt
+
+pub text-saw : (f : Fault) → class_of f ≡ Text → SawText (Some f)
+text-saw f is = subst (λ (k : FaultClass). T (class_ending k).saw_text) (sym is) tt
+
+pub limit-answered : (f : Fault) → class_of f ≡ Limit → IsAnswered (Some f)
+limit-answered f is = subst (λ (k : FaultClass). T (class_ending k).answered) (sym is) tt
+
+pub limit-saw : (f : Fault) → class_of f ≡ Limit → SawText (Some f)
+limit-saw f is = subst (λ (k : FaultClass). T (class_ending k).saw_text) (sym is) tt

@@ -1,9 +1,0 @@
-use Rattle.std.proofs.Common.{ℕ, ◌<◌}
-use Rattle.block_index.specs.Places.{Cube}
-use Rattle.cello_top.specs.Runs.{WishesTooFine}
-use Rattle.cello_top.proofs.run.level_limit.Given as goal
-
-abbrev pub invariant-loop-i : goal.invariant-loop-i
-invariant-loop-i l = record {
-  none : (j : ℕ) (c : Cube) → j < l.i → WishesTooFine l.params l.phase l.set.places j c → ⊥;
-}

@@ -1,8 +1,0 @@
-use Rattle.std.proofs.Common.{◌≡◌, drop}
-use Rattle.cello_top.specs.Wishes.{greater, criteria_wish}
-use Rattle.cello_top.proofs.wishes.criteria_wish.Given as goal
-
-abbrev pub invariant-loop-criterion : goal.invariant-loop-criterion
-invariant-loop-criterion l = record {
-  wish : greater l.wish (criteria_wish l.block l.phase (drop l.criterion-index l.criteria) l.place) ≡ criteria_wish l.block l.phase l.criteria l.place;
-}

@@ -1,0 +1,8 @@
+-- Lemmas by subject.
+pub mod Limits
+pub mod LevelLimits
+pub mod Phases
+pub mod PhaseMeshes
+pub mod OneRun
+pub mod RunExists
+pub mod PlainCounts

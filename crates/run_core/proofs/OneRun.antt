@@ -1,0 +1,121 @@
+-- There is one run of the same parameters.
+use Rattle.std.proofs.Common.{◌≡◌, ℕ, zero, suc, ◌<◌, List, [], ◌∷◌, ◌++◌, length, Option, Some, sym, ap, ◌∙◌, subst, arith, inl, inr}
+use Rattle.std.proofs.lemmas.Option.{same_Some}
+use Rattle.std.proofs.lemmas.Bool.{cases_order}
+use Rattle.std.specs.Prelude.{slice_get}
+use Rattle.block_index.specs.Places.{Cube}
+use Rattle.leaf_set.specs.LevelRules.{IsLeast}
+use Rattle.leaf_set.specs.NextMesh.{next_mesh}
+use Rattle.leaf_set.proofs.Solutions.{IsLeast-one}
+use Rattle.params_check.specs.Parameters.{Parameters}
+use Rattle.run_core.specs.declared.fault.RunFault.{RunFault}
+use Rattle.run_core.specs.declared.fault.RunFault.TheVariants.{LevelLimit, BlockLimit}
+use Rattle.run_core.specs.Wishes.{wishes_in}
+use Rattle.run_core.specs.Runs.{WishesTooFine, Adapts, PassesLimit, of_level, of_blocks, RunState, RunSteps, Runs, RunEnds, after_all, at_limit}
+
+-- a state, and the limit that ended the run there, are others'
+record SameEnd (s t : RunState) (a b : Option RunFault) : Type 0 where
+  pub state : s ≡ t
+  pub limit : a ≡ b
+
+module _ (p : Parameters) where
+  levels-one : (phase : ℕ) (mesh : List Cube) (levels others : List ℕ) → IsLeast p.grid mesh (wishes_in p phase mesh) levels
+      → IsLeast p.grid mesh (wishes_in p phase mesh) others → levels ≡ others
+  levels-one phase mesh levels others a b = IsLeast-one p.grid mesh (wishes_in p phase mesh) levels others a b
+
+  Adapts-one : (phase : ℕ) (before after other : List Cube) → Adapts p phase before after → Adapts p phase before other → after ≡ other
+  Adapts-one phase before after other a b =
+      let levels : a.levels ≡ b.levels = levels-one phase before a.levels b.levels a.least b.least in
+      a.next ∙ (ap (next_mesh before) levels ∙ sym b.next)
+
+  RunSteps-one : (phase : ℕ) (s t u : RunState) → RunSteps p phase s t → RunSteps p phase s u → t ≡ u
+  RunSteps-one phase s t u a b =
+      let mesh : t.mesh ≡ u.mesh = Adapts-one phase s.mesh t.mesh u.mesh a.adapts b.adapts in
+      let more : List Cube → List ℕ = λ after. s.leaves ++ length after ∷ [] in
+      let leaves : t.leaves ≡ u.leaves = a.leaves ∙ (ap more mesh ∙ sym b.leaves) in
+      λ i. record { mesh = mesh i; leaves = leaves i }
+
+  pub Runs-one : (phases : ℕ) (t u : RunState) → Runs p phases t → Runs p phases u → t ≡ u
+  Runs-one zero t u a b = a ∙ sym b
+  Runs-one (suc phases) t u a b =
+      let before : b.0 ≡ a.0 = Runs-one phases b.0 a.0 b.1 a.1 in
+      RunSteps-one (suc phases) a.0 t u a.2 (subst (λ (s : RunState). RunSteps p (suc phases) s u) before b.2)
+
+  -- the leaf that a limit names is one
+  same_leaf : (phase : ℕ) (mesh : List Cube) (i j : ℕ) (c d : Cube) → WishesTooFine p phase mesh i c → WishesTooFine p phase mesh j d
+      → ((k : ℕ) (e : Cube) → k < i → WishesTooFine p phase mesh k e → ⊥) → ((k : ℕ) (e : Cube) → k < j → WishesTooFine p phase mesh k e → ⊥) → c ≡ d
+  same_leaf phase mesh i j c d a b none_before_i none_before_j =
+      elim (cases_order i j) [
+        | inr (inl less) ↦ absurd (none_before_j i c less a)
+        | inl same ↦
+            let moved : slice_get mesh j ≡ Some c = subst (λ k. slice_get mesh k ≡ Some c) same a.leaf in
+            same_Some c d (sym moved ∙ b.leaf)
+        | inr (inr more) ↦ absurd (none_before_i j d more b)
+      ]
+
+  PassesLimit-one : (phase : ℕ) (mesh : List Cube) (f g : RunFault) → PassesLimit p phase mesh f → PassesLimit p phase mesh g → f ≡ g
+  PassesLimit-one phase mesh f g (of_level i c strict a none e) (of_level j d too b before h) =
+      e ∙ ap (LevelLimit phase) (same_leaf phase mesh i j c d a b none before) ∙ sym h
+  PassesLimit-one phase mesh f g (of_level i c strict a none e) (of_blocks levels keeps least many h) = absurd (keeps strict i c a)
+  PassesLimit-one phase mesh f g (of_blocks levels keeps least many e) (of_level i c strict a none h) = absurd (keeps strict i c a)
+  PassesLimit-one phase mesh f g (of_blocks levels keeps least many e) (of_blocks others kept leasts more h) =
+      e ∙ ap (λ (ls : List ℕ). BlockLimit phase (length (next_mesh mesh ls)) p.max_blocks) (levels-one phase mesh levels others least leasts) ∙ sym h
+
+  passes_or_adapts : (phase : ℕ) (mesh after : List Cube) (f : RunFault) → PassesLimit p phase mesh f → Adapts p phase mesh after → ⊥
+  passes_or_adapts phase mesh after f (of_level i c strict a none e) b = b.level_limit strict i c a
+  passes_or_adapts phase mesh after f (of_blocks levels keeps least many e) b =
+      let same : levels ≡ b.levels = levels-one phase mesh levels b.levels least b.least in
+      let counts : length (next_mesh mesh levels) ≡ length after = ap (λ (ls : List ℕ). length (next_mesh mesh ls)) same ∙ ap length (sym b.next) in
+      omega (arith, b.block_limit)
+
+  -- a run goes through each of its phases
+  record Through (phases : ℕ) : Type 0 where
+    before : RunState
+    after : RunState
+    runs : Runs p phases before
+    steps : RunSteps p (suc phases) before after
+
+  through : (all phases : ℕ) (t : RunState) → phases < all → Runs p all t → Through phases
+  through zero phases t below runs = absurd (omega arith)
+  through (suc all) phases t below runs =
+      elim (cases_order phases all) [
+        | inr (inl less) ↦ through all phases runs.0 less runs.1
+        | inl same ↦
+            record {
+              before = runs.0;
+              after = t;
+              runs = subst (λ k. Runs p k runs.0) (sym same) runs.1;
+              steps = subst (λ k. RunSteps p (suc k) runs.0 t) (sym same) runs.2;
+            }
+        | inr (inr more) ↦ absurd (omega arith)
+      ]
+
+  -- a run that goes on past a phase passed no limit there
+  no_limit_within : (all phases : ℕ) (t s : RunState) (f : RunFault) → phases < all → Runs p all t → Runs p phases s → PassesLimit p (suc phases) s.mesh f → ⊥
+  no_limit_within all phases t s f below runs some passes =
+      let h = through all phases t below runs in
+      let same : s ≡ h.before = Runs-one phases s h.before some h.runs in
+      let moved : PassesLimit p (suc phases) h.before.mesh f = subst (λ (u : RunState). PassesLimit p (suc phases) u.mesh f) same passes in
+      passes_or_adapts (suc phases) h.before.mesh h.after.mesh f moved h.steps.adapts
+
+  one_end : (s t : RunState) (a b : Option RunFault) → RunEnds p s a → RunEnds p t b → SameEnd s t a b
+  one_end s t a b (after_all runs none) (after_all course last) = record { state = Runs-one p.rounds s t runs course; limit = none ∙ sym last }
+  one_end s t a b (after_all runs none) (at_limit phases f below some passes is) = absurd (no_limit_within p.rounds phases s t f below runs some passes)
+  one_end s t a b (at_limit phases f below some passes is) (after_all runs none) = absurd (no_limit_within p.rounds phases t s f below runs some passes)
+  one_end s t a b (at_limit k f below runs passes is) (at_limit m g most course stops ends) =
+      elim (cases_order k m) [
+        | inr (inl less) ↦ absurd (no_limit_within m k t s f less course runs passes)
+        | inl same ↦
+            let states : s ≡ t = Runs-one k s t runs (subst (λ n. Runs p n t) (sym same) course) in
+            let moved : PassesLimit p (suc k) s.mesh g =
+            subst (λ (u : RunState). PassesLimit p (suc k) u.mesh g) (sym states) (subst (λ n. PassesLimit p (suc n) t.mesh g) (sym same) stops) in
+            let faults : f ≡ g = PassesLimit-one (suc k) s.mesh f g passes moved in
+            record { state = states; limit = is ∙ ap Some faults ∙ sym ends }
+        | inr (inr more) ↦ absurd (no_limit_within k m s t g more runs course stops)
+      ]
+
+  pub RunEnds-state : (s t : RunState) (a b : Option RunFault) → RunEnds p s a → RunEnds p t b → s ≡ t
+  RunEnds-state s t a b x y = (one_end s t a b x y).state
+
+  pub RunEnds-limit : (s t : RunState) (a b : Option RunFault) → RunEnds p s a → RunEnds p t b → a ≡ b
+  RunEnds-limit s t a b x y = (one_end s t a b x y).limit

@@ -1,0 +1,6 @@
+-- Phase by phase, up to the last or to a limit.
+use Rattle.run_core.proofs.RunExists.{run_exists}
+use Rattle.run_core.proofs.laws.run_exists.Goals as goal
+
+pub returns : goal.returns
+returns c = record { exists = run_exists }

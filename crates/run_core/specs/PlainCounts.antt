@@ -1,0 +1,41 @@
+-- How many messages the phases of a run handle, where each phase delivers them first in, first out.
+use Rattle.std.specs.Prelude.{◌≡◌, ℕ, zero, suc, ◌+◌, List}
+use Rattle.block_index.specs.Places.{Cube, Grid}
+use Rattle.block_index.specs.declared.wish.Wish.{Wish}
+use Rattle.phase_core.specs.Machine.{CoreState, RunsPlainly, start_state}
+use Rattle.adapt_core.specs.declared.adapt_msg.AdaptMsg.{AdaptMsg}
+use Rattle.adapt_core.specs.Cells.{LeafState, AdaptProblem}
+use Rattle.adapt_core.specs.Problem.{mesh_of, wishes_of, AdaptBegins}
+use Rattle.adapt_core.specs.React.{adapt_react, adapt_start}
+use Rattle.params_check.specs.Parameters.{Parameters}
+use Rattle.run_core.specs.Runs.{RunState, Runs}
+use Rattle.run_core.specs.Wishes.{wishes_in}
+
+-- How many messages the adapt phase of a mesh and these wishes handles where they are delivered first in, first out,
+-- its start messages in the order of the leaves.
+pub record IsPlainCount (grid : Grid) (mesh : List Cube) (wishes : List Wish) (count : ℕ) : Type 0 where
+  pub problem : AdaptProblem
+  pub cells : List LeafState
+  pub quiet : CoreState LeafState AdaptMsg
+  pub begins : AdaptBegins problem cells
+  pub same_grid : problem.grid ≡ grid
+  pub same_mesh : mesh_of problem ≡ mesh
+  pub same_wishes : wishes_of problem ≡ wishes
+  pub runs : RunsPlainly (adapt_react problem) (start_state adapt_start cells) count quiet
+
+-- after the run's first phases, which are this many, the next one handles `after` less `before` messages
+pub record CountsPhase (p : Parameters) (phases before after : ℕ) : Type 0 where
+  pub state : RunState
+  pub runs : Runs p phases state
+  pub count : ℕ
+  pub plain : IsPlainCount p.grid state.mesh (wishes_in p (suc phases) state.mesh) count
+  pub together : after ≡ before + count
+
+-- the run's first phases, which are this many, handle so many messages together
+abbrev pub CountsPhases : Parameters → ℕ → ℕ → Type 0
+CountsPhases p zero handled = handled ≡ 0
+CountsPhases p (suc phases) handled = (before : ℕ) × CountsPhases p phases before × CountsPhase p phases before handled
+
+-- all phases of the run handle so many messages together
+abbrev pub HandlesPlainly : Parameters → ℕ → Type 0
+HandlesPlainly p handled = CountsPhases p p.rounds handled

@@ -1,0 +1,75 @@
+-- The defined run of parameters: adapt phases one after another, from the mesh of the roots on, to the last or to a
+-- limit.
+use Rattle.std.specs.Prelude.{◌≡◌, ℕ, zero, suc, ◌<◌, ◌≤◌, true, List, [], ◌∷◌, ◌++◌, length, Option, Some, None, slice_get}
+use Rattle.block_index.specs.Places.{Cube}
+use Rattle.block_index.specs.declared.wish.Wish.TheVariants.{Refine}
+use Rattle.leaf_set.specs.LevelRules.{IsLeast}
+use Rattle.leaf_set.specs.NextMesh.{next_mesh}
+use Rattle.leaf_set.specs.RootMesh.{root_mesh}
+use Rattle.params_check.specs.Parameters.{Parameters}
+use Rattle.run_core.specs.declared.fault.RunFault.{RunFault}
+use Rattle.run_core.specs.declared.fault.RunFault.TheVariants.{LevelLimit, BlockLimit}
+use Rattle.run_core.specs.Wishes.{wish_of, wishes_in}
+
+-- how many phases a run has at most
+abbrev pub most_phases : ℕ
+most_phases = 12
+
+-- the leaf at `i` is of the finest level, and wishes to refine
+pub record WishesTooFine (p : Parameters) (phase : ℕ) (mesh : List Cube) (i : ℕ) (place : Cube) : Type 0 where
+  pub leaf : slice_get mesh i ≡ Some place
+  pub finest : place.level ≡ p.grid.finest
+  pub refine : wish_of p phase place ≡ Refine
+
+-- where the parameters are strict, no leaf wishes for a level above the finest
+abbrev pub KeepsLevelLimit : Parameters → ℕ → List Cube → Type 0
+KeepsLevelLimit p phase mesh = p.strict ≡ true → (i : ℕ) (place : Cube) → WishesTooFine p phase mesh i place → ⊥
+
+-- One adapt phase leads from a mesh to the next, by the least levels that meet the level rules, within both limits.
+pub record Adapts (p : Parameters) (phase : ℕ) (before after : List Cube) : Type 0 where
+  pub level_limit : KeepsLevelLimit p phase before
+  pub levels : List ℕ
+  pub least : IsLeast p.grid before (wishes_in p phase before) levels
+  pub next : after ≡ next_mesh before levels
+  pub block_limit : length after ≤ p.max_blocks
+
+-- An adapt phase ends the run by a limit: with strict parameters the first leaf that wishes for a level above the
+-- finest, else a next mesh of more leaves than there may be blocks.
+pub data PassesLimit (p : Parameters) (phase : ℕ) (mesh : List Cube) (fault : RunFault) : Type 0 where
+  of_level : (i : ℕ) (place : Cube) → p.strict ≡ true → WishesTooFine p phase mesh i place →
+      ((j : ℕ) (c : Cube) → j < i → WishesTooFine p phase mesh j c → ⊥) → fault ≡ LevelLimit phase place → PassesLimit p phase mesh fault
+  of_blocks : (levels : List ℕ) → KeepsLevelLimit p phase mesh → IsLeast p.grid mesh (wishes_in p phase mesh) levels →
+      p.max_blocks < length (next_mesh mesh levels) → fault ≡ BlockLimit phase (length (next_mesh mesh levels)) p.max_blocks →
+      PassesLimit p phase mesh fault
+
+-- Where a run stands: its mesh, and the number of leaves after each phase so far.
+pub record RunState : Type 0 where
+  pub mesh : List Cube
+  pub leaves : List ℕ
+
+abbrev pub run_state : List Cube → List ℕ → RunState
+run_state mesh leaves = record { mesh = mesh; leaves = leaves }
+
+-- the run before its first phase
+abbrev pub run_start : Parameters → RunState
+run_start p = record { mesh = root_mesh p.grid; leaves = [] }
+
+-- one phase more, which has this number
+pub record RunSteps (p : Parameters) (phase : ℕ) (s t : RunState) : Type 0 where
+  pub adapts : Adapts p phase s.mesh t.mesh
+  pub leaves : t.leaves ≡ s.leaves ++ length t.mesh ∷ []
+
+-- the first phases of the run, which are this many and are numbered from 1
+abbrev pub Runs : Parameters → ℕ → RunState → Type 0
+Runs p zero t = t ≡ run_start p
+Runs p (suc phases) t = (s : RunState) × Runs p phases s × RunSteps p (suc phases) s t
+
+-- The run ends, in this state: after its last phase, or by a limit that the next phase passes.
+pub data RunEnds (p : Parameters) (s : RunState) (limit : Option RunFault) : Type 0 where
+  after_all : Runs p p.rounds s → limit ≡ None → RunEnds p s limit
+  at_limit : (phases : ℕ) (fault : RunFault) → phases < p.rounds → Runs p phases s → PassesLimit p (suc phases) s.mesh fault → limit ≡ Some fault →
+      RunEnds p s limit
+
+-- no phase of the run passes a limit
+abbrev pub MeetsNoLimit : Parameters → Type 0
+MeetsNoLimit p = (phases : ℕ) (s : RunState) (fault : RunFault) → phases < p.rounds → Runs p phases s → PassesLimit p (suc phases) s.mesh fault → ⊥
