@@ -13,8 +13,6 @@ mod laws;
 mod problem;
 mod problem_laws;
 mod siblings;
-#[cfg(test)]
-mod tests;
 
 pub use adapt::{Adapt, levels};
 pub use adapt_msg::AdaptMsg;

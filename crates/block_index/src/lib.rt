@@ -15,8 +15,6 @@ mod next_place;
 mod packing;
 mod place;
 mod standing;
-#[cfg(test)]
-mod tests;
 mod touching;
 mod wish;
 

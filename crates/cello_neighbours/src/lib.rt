@@ -8,15 +8,9 @@
 
 mod by_direction;
 mod covers;
-#[cfg(test)]
-mod direction_tests;
 mod directions;
 mod laws;
-#[cfg(test)]
-mod mesh_tests;
 mod neighbours;
-#[cfg(test)]
-mod tests;
 mod touching_list;
 
 pub use by_direction::in_direction;

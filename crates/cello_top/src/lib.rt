@@ -22,8 +22,3 @@ pub use fault_lines::write_fault;
 pub use laws::{answer_exists, one_answer};
 pub use one_thread::solo;
 pub use outcome::Outcome;
-
-#[cfg(test)]
-mod fault_tests;
-#[cfg(test)]
-mod tests;

@@ -14,9 +14,6 @@ ghost use Rattle.leaf_set.specs.Lemmas.JumpSearch.{IsAroundCorner, IsFarOver, Is
 use block_index::{Domain, Place, place_beyond};
 use indexmap::IndexSet;
 
-#[cfg(test)]
-mod tests;
-
 /// How many places of a level lie around a corner: two along each axis.
 const PLACES_AROUND: u8 = 8;
 

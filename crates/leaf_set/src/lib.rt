@@ -12,8 +12,6 @@ mod laws;
 mod leaf_fault;
 mod level_laws;
 mod set;
-#[cfg(test)]
-mod tests;
 
 pub use laws::{faults_of_places, leaves_of_a_mesh, next_mesh_is_a_mesh, root_mesh_is_a_mesh};
 pub use leaf_fault::LeafFault;

@@ -12,9 +12,6 @@ use crate::value_walk::{GroupValues, walk_values};
 use params_syntax::{Tree, write};
 use std::alloc::Global;
 
-#[cfg(test)]
-mod tests;
-
 /// The parameters of a tree, or its first fault.
 pub fn check(alloc: Global, tree: &Tree) -> Result<Params, CheckError>
     ensures params { IfOk result (λ p. parameters_of tree.now ≡ Ok p) }

@@ -7,9 +7,6 @@ use crate::cell_counts::cell_count;
 use crate::shape::Shape;
 use block_index::Domain;
 
-#[cfg(test)]
-mod tests;
-
 /// The initial total of a field: what its shapes put into the root cells of the domain.
 pub(crate) fn initial_total(domain: &Domain, block: u16, shapes: &[Shape], field: u8) -> u128
     requires block { block ≤ 16 }

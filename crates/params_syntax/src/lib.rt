@@ -24,8 +24,3 @@ pub use reading_laws::{each_text_reads, one_reading};
 pub use tree::{Atom, Atoms, Group, Item, Items, Setting, Settings, Tree, Value};
 pub use writing::write;
 pub use writing_laws::canonical_text_reads_again;
-
-#[cfg(test)]
-mod reading_tests;
-#[cfg(test)]
-mod writing_tests;

@@ -1,5 +1,6 @@
 -- Lemmas by subject.
 pub mod Limits
+pub mod Greater
 pub mod LevelLimits
 pub mod Phases
 pub mod PhaseMeshes

@@ -1,11 +1,12 @@
 -- Limits of places as numbers.
 use Rattle.std.proofs.Common.{ℕ, ◌^◌, ◌≤◌, ◌<◌, arith}
 use Rattle.std.proofs.Math.Pow.{pow_mono}
-use Rattle.run_core.specs.Lemmas.Bounds.{most_across, deepest_leaf}
+use Rattle.block_index.specs.Places.{deepest}
+use Rattle.run_core.specs.Lemmas.Bounds.{most_across}
 use Rattle.block_index.specs.Places.{Cube, IsPlace}
 
-widest : (l : ℕ) → l ≤ deepest_leaf → 2 ^ l ≤ 2 ^ deepest_leaf
-widest l h = let p : 2 ^ l ≤ 2 ^ deepest_leaf = pow_mono h in p
+widest : (l : ℕ) → l ≤ deepest → 2 ^ l ≤ 2 ^ deepest
+widest l h = let p : 2 ^ l ≤ 2 ^ deepest = pow_mono h in p
 
 pub x_below : (c : Cube) → IsPlace c → c.x < most_across
 x_below c p = omega (arith, p.x, widest c.level p.level)

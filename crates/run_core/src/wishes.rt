@@ -1,10 +1,11 @@
 //! The wishes of leaves by the criteria.
 ghost use Rattle.std.specs.Prelude.{◌≡◌, ℕ, ◌≤◌, ◌<◌, IfOk, All, length};
 ghost use Rattle.params_check.specs.Limits.{IsCorner, KeepsTest, KeepsCriterion};
-ghost use Rattle.run_core.specs.Lemmas.Bounds.{widest_block, most_root_cells, deepest_leaf, most_across};
+ghost use Rattle.block_index.specs.Places.{deepest};
+ghost use Rattle.run_core.specs.Lemmas.Bounds.{widest_block, most_root_cells, most_across};
 ghost use Rattle.run_core.specs.Wishes.{meets_along, meets_box, box_wish, test_wish, greater, criteria_wish, wishes_in};
 
-use block_index::{Place, Wish};
+use block_index::{Place, Wish, greater_wish};
 use cello_num::Memory;
 use leaf_set::LeafSet;
 use params_check::{Criterion, Params, Test};
@@ -15,7 +16,7 @@ fn meets_along(block: u16, low: u16, high: u16, level: u8, x: u16) -> bool
     requires block { block ≤ widest_block }
     requires low { low ≤ most_root_cells }
     requires high { high ≤ most_root_cells }
-    requires level { level ≤ deepest_leaf }
+    requires level { level ≤ deepest }
     requires x { x < most_across }
     ensures meets { result ≡ meets_along block low high level x }
 {
@@ -72,11 +73,7 @@ fn test_wish(block: u16, test: &Test, place: Place) -> Wish
 fn greater(a: Wish, b: Wish) -> Wish
     ensures wish { result ≡ greater a b }
 {
-    match (a, b) {
-        (Wish::Refine, _) | (_, Wish::Refine) => Wish::Refine,
-        (Wish::Stay, _) | (_, Wish::Stay) => Wish::Stay,
-        _ => Wish::Coarsen,
-    }
+    greater_wish(a, b)
 }
 
 /// The wish of the leaf at `place` in a phase: the greatest of the active criteria. A block has `block` cells along

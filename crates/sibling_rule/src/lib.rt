@@ -7,8 +7,6 @@
 
 mod next_leaves;
 mod own_rules;
-#[cfg(test)]
-mod tests;
 
 pub use next_leaves::{count_after, decide};
 pub use own_rules::opening;
