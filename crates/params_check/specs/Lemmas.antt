@@ -1,0 +1,5 @@
+pub mod Tables
+pub mod Slots
+pub mod Firsts
+pub mod Groups
+pub mod CellCounts
