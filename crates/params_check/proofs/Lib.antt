@@ -1,3 +1,4 @@
+-- The lemmas by subject.
 pub mod FirstFaults
 pub mod KeyWalks
 pub mod Subs

@@ -1,3 +1,4 @@
+-- Definitions that serve private contracts and proofs.
 pub mod Tables
 pub mod Slots
 pub mod Firsts

@@ -1,3 +1,4 @@
+-- The definitions: first those that public contracts rest on.
 pub mod Values
 pub mod Bounds
 pub mod Keys

@@ -1,3 +1,4 @@
+-- What holds at each turn of the loop.
 use Rattle.std.proofs.Common.{◌≡◌, drop}
 use Rattle.params_check.specs.Forms.{each, is_field_byte}
 use Rattle.params_check.proofs.atoms.are_field_bytes.Given as goal

@@ -1,3 +1,4 @@
+-- What holds at each turn of the loop.
 use Rattle.std.proofs.Common.{◌≡◌, drop, map}
 use Rattle.params_check.specs.Keys.{is_among}
 use Rattle.params_check.specs.Values.{word_of}

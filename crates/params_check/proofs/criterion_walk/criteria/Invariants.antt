@@ -1,3 +1,4 @@
+-- What holds at each turn of the loop.
 use Rattle.std.proofs.Common.{codes}
 use Rattle.params_check.specs.Keys.{criterion_kind, criterion_keys}
 use Rattle.params_check.specs.TreeValues.{criterion_of, word_at}

@@ -1,3 +1,4 @@
+-- What holds at each turn of the loop.
 use Rattle.std.proofs.Common.{◌≡◌, drop}
 use Rattle.params_check.specs.Forms.{each, is_in_reach}
 use Rattle.params_check.specs.Lemmas.Tables.{wanted_of}

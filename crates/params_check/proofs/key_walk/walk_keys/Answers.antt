@@ -1,3 +1,4 @@
+-- What is left of the proof of this function.
 use Rattle.std.proofs.Common.{map, arith}
 use Rattle.params_check.specs.declared.fault.CheckError.TheVariants.{Param}
 use Rattle.params_check.specs.Keys.{Key}

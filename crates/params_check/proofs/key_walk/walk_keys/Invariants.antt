@@ -1,3 +1,4 @@
+-- What holds at each turn of the loop.
 use Rattle.params_check.specs.Lemmas.Slots.{given, settings_in}
 use Rattle.params_check.specs.Lemmas.Tables.{entry}
 use Rattle.params_check.specs.TreeValues.{value_at}

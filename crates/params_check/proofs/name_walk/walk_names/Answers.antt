@@ -1,3 +1,4 @@
+-- What is left of the proof of this function.
 use Rattle.std.proofs.Common.{[], ◌∙◌, arith, rules}
 use Rattle.params_check.specs.Lemmas.Firsts.{first_fault}
 use Rattle.params_check.specs.Walks.{group_faults, in_turn}

@@ -1,3 +1,4 @@
+-- What holds at each turn of the loop.
 use Rattle.std.proofs.Common.{◌≡◌, [], take, drop}
 use Rattle.params_check.specs.Lemmas.Firsts.{first_fault}
 use Rattle.params_check.specs.Lemmas.Groups.{keys_of}

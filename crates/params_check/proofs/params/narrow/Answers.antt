@@ -1,3 +1,4 @@
+-- What is left of the proof of this function.
 use Rattle.std.proofs.Common.{pos, [], ◌∷◌, get_or, ◌∙◌, rules, w32, w64, to_z, of_z, FitsSigned}
 use Rattle.std.proofs.lemmas.Int.{to_z-of_z}
 use Rattle.std.proofs.lemmas.List.{map-id}

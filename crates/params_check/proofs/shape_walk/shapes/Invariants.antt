@@ -1,3 +1,4 @@
+-- What holds at each turn of the loop.
 use Rattle.std.proofs.Common.{codes}
 use Rattle.params_check.specs.Keys.{shape_kind, shape_keys}
 use Rattle.params_check.specs.TreeValues.{shape_of, word_at}

@@ -1,3 +1,4 @@
+-- What holds at each turn of the loop.
 use Rattle.std.proofs.Common.{◌≡◌, take, map}
 use Rattle.params_check.specs.Values.{word_of}
 use Rattle.params_check.proofs.slots.names_of.Given as goal

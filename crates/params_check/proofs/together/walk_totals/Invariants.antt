@@ -1,3 +1,4 @@
+-- What holds at each turn of the loop.
 use Rattle.std.proofs.Common.{◌≡◌, ◌-◌, length, flat_map}
 use Rattle.std.specs.List.{range_with_len}
 use Rattle.params_check.specs.Lemmas.Firsts.{first_fault}

@@ -1,3 +1,4 @@
+-- What is left of the proof of this function.
 use Rattle.std.proofs.Common.{[], ap, codes, length, arith}
 use Rattle.params_check.specs.Keys.{field_keys}
 use Rattle.params_check.specs.TreeValues.{settings_of}
