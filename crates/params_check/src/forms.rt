@@ -9,7 +9,7 @@ use crate::atoms::{
     all_differ, is_among, is_between, is_even, is_field_name, is_name_of, is_up_to, word_of,
 };
 use crate::bounds::{GREATEST_AMOUNT, GREATEST_SLOPE, MOST_FIELDS};
-use crate::keys::Wanted;
+use crate::entries::Wanted;
 use cello_num::Name;
 use params_syntax::{Atom, Value};
 
@@ -18,8 +18,8 @@ fn wants_numbers(wanted: Wanted) -> bool
     ensures numbers { result ≡ wants_numbers (wanted_of wanted) }
 {
     match wanted {
-        Wanted::Number { .. } | Wanted::Even { .. } | Wanted::Threshold => true,
-        Wanted::Triple { .. } | Wanted::TripleUpTo { .. } => true,
+        Wanted::Number(..) | Wanted::Even(..) | Wanted::Threshold => true,
+        Wanted::Triple(..) | Wanted::TripleUpTo(..) => true,
         _ => false,
     }
 }
@@ -29,7 +29,7 @@ fn wants_list_of(wanted: Wanted, count: usize) -> bool
     ensures list { result ≡ wants_list_of (wanted_of wanted) count }
 {
     match wanted {
-        Wanted::Triple { .. } | Wanted::TripleUpTo { .. } | Wanted::ThreeOf { .. } => count == 3,
+        Wanted::Triple(..) | Wanted::TripleUpTo(..) | Wanted::ThreeOf(..) => count == 3,
         Wanted::NewNames => true,
         _ => false,
     }
@@ -40,8 +40,8 @@ fn wants_single(wanted: Wanted) -> bool
     ensures single { result ≡ wants_single (wanted_of wanted) }
 {
     match wanted {
-        Wanted::Number { .. } | Wanted::Even { .. } | Wanted::Threshold => true,
-        Wanted::OneOf { .. } | Wanted::FieldName => true,
+        Wanted::Number(..) | Wanted::Even(..) | Wanted::Threshold => true,
+        Wanted::OneOf(..) | Wanted::FieldName => true,
         _ => false,
     }
 }
@@ -97,10 +97,10 @@ fn is_in_reach(wanted: Wanted, atom: &Atom, kind: &[u8], names: &[Name]) -> bool
     ensures reach { result ≡ is_in_reach names.now kind.now (wanted_of wanted) atom.now }
 {
     match wanted {
-        Wanted::Number { low, high } | Wanted::Triple { low, high } => is_between(atom, low, high),
-        Wanted::Even { low, high } => is_between(atom, low, high) && is_even(atom),
-        Wanted::TripleUpTo { most } => is_up_to(atom, most),
-        Wanted::OneOf { words } | Wanted::ThreeOf { words } => is_among(words, word_of(atom)),
+        Wanted::Number(low, high) | Wanted::Triple(low, high) => is_between(atom, low, high),
+        Wanted::Even(low, high) => is_between(atom, low, high) && is_even(atom),
+        Wanted::TripleUpTo(most) => is_up_to(atom, most),
+        Wanted::OneOf(words) | Wanted::ThreeOf(words) => is_among(words, word_of(atom)),
         Wanted::NewNames => is_field_name(word_of(atom)),
         Wanted::FieldName => is_name_of(names, word_of(atom)),
         Wanted::Threshold => is_between(atom, 0, most_threshold(kind)),

@@ -5,9 +5,8 @@ ghost use Rattle.params_check.specs.Keys.{is_among};
 ghost use Rattle.params_check.specs.Lemmas.Tables.{entry};
 ghost use Rattle.params_check.specs.Walks.{group_names, has_key};
 
-use crate::keys::{
-    Key, criterion_keys, field_keys, mesh_keys, method_keys, output_keys, shape_keys,
-};
+use crate::entries::Key;
+use crate::keys::{criterion_keys, field_keys, mesh_keys, method_keys, output_keys, shape_keys};
 use crate::lookup::spells;
 use cello_num::Name;
 

@@ -9,9 +9,9 @@ ghost use Rattle.params_check.specs.TreeValues.{value_at};
 ghost use Rattle.params_check.specs.Walks.{key_faults, keys_faults};
 
 use crate::atoms::is_among;
+use crate::entries::{Fallback, Key};
 use crate::fault::{CheckError, ParamFault, ParamKind};
 use crate::forms::{has_form, is_in_range};
-use crate::keys::{Fallback, Key};
 use crate::lookup::Lines;
 use crate::place::{Place, name};
 use crate::slots::Slot;

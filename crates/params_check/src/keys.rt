@@ -8,113 +8,50 @@ use crate::bounds::{
     FARTHEST, FASTEST, FINEST_LEVEL, GREATEST_AMOUNT, GREATEST_DEN, GREATEST_EDGE, LAST_PHASE,
     LEAST_EDGE, MOST_BLOCKS, MOST_CYCLES, MOST_ROUNDS, MOST_TREES,
 };
-
-/// What values a key takes.
-#[derive(Clone, Copy)]
-pub(crate) enum Wanted {
-    /// A number from a least one to a greatest.
-    Number { low: u64, high: u64 },
-    /// An even number from a least one to a greatest.
-    Even { low: u64, high: u64 },
-    /// Three numbers, each from a least one to a greatest.
-    Triple { low: u64, high: u64 },
-    /// Three numbers, each of at most this size, with either sign.
-    TripleUpTo { most: u64 },
-    /// One of these words.
-    OneOf { words: &'static [&'static [u8]] },
-    /// Three of these words.
-    ThreeOf { words: &'static [&'static [u8]] },
-    /// The names of the fields.
-    NewNames,
-    /// The name of a field.
-    FieldName,
-    /// A number from 0 to the greatest amount, and for the kind `slope` to the greatest slope.
-    Threshold,
-}
-
-/// What a key is where it is left out.
-#[derive(Clone, Copy)]
-pub(crate) enum Fallback {
-    /// It may not be left out.
-    Required,
-    Number { number: u64 },
-    ThreeZeros,
-    Word { word: &'static [u8] },
-    ThreeWords { word: &'static [u8] },
-    NoWords,
-}
-
-/// A key.
-#[derive(Clone, Copy)]
-pub(crate) struct Key {
-    pub(crate) name: &'static [u8],
-    /// The kinds of sub that have it; where none is named, all have it.
-    pub(crate) kinds: &'static [&'static [u8]],
-    pub(crate) wanted: Wanted,
-    pub(crate) fallback: Fallback,
-}
+use crate::entries::{Fallback, Key, Wanted};
 
 static MESH_KEYS: [Key; 7] = [
     Key {
         name: b"array",
         kinds: &[],
-        wanted: Wanted::Triple {
-            low: 1,
-            high: MOST_TREES,
-        },
+        wanted: Wanted::Triple(1, MOST_TREES),
         fallback: Fallback::Required,
     },
     Key {
         name: b"block",
         kinds: &[],
-        wanted: Wanted::Even {
-            low: LEAST_EDGE,
-            high: GREATEST_EDGE,
-        },
+        wanted: Wanted::Even(LEAST_EDGE, GREATEST_EDGE),
         fallback: Fallback::Required,
     },
     Key {
         name: b"max_level",
         kinds: &[],
-        wanted: Wanted::Number {
-            low: 0,
-            high: FINEST_LEVEL,
-        },
-        fallback: Fallback::Number { number: 0 },
+        wanted: Wanted::Number(0, FINEST_LEVEL),
+        fallback: Fallback::Number(0),
     },
     Key {
         name: b"max_blocks",
         kinds: &[],
-        wanted: Wanted::Number {
-            low: 1,
-            high: MOST_BLOCKS,
-        },
-        fallback: Fallback::Number { number: 4096 },
+        wanted: Wanted::Number(1, MOST_BLOCKS),
+        fallback: Fallback::Number(4096),
     },
     Key {
         name: b"initial_rounds",
         kinds: &[],
-        wanted: Wanted::Number {
-            low: 0,
-            high: MOST_ROUNDS,
-        },
-        fallback: Fallback::Number { number: 0 },
+        wanted: Wanted::Number(0, MOST_ROUNDS),
+        fallback: Fallback::Number(0),
     },
     Key {
         name: b"strict",
         kinds: &[],
-        wanted: Wanted::OneOf {
-            words: &[b"yes", b"no"],
-        },
-        fallback: Fallback::Word { word: b"no" },
+        wanted: Wanted::OneOf(&[b"yes", b"no"]),
+        fallback: Fallback::Word(b"no"),
     },
     Key {
         name: b"boundary",
         kinds: &[],
-        wanted: Wanted::ThreeOf {
-            words: &[b"periodic", b"open", b"closed"],
-        },
-        fallback: Fallback::ThreeWords { word: b"periodic" },
+        wanted: Wanted::ThreeOf(&[b"periodic", b"open", b"closed"]),
+        fallback: Fallback::ThreeWords(b"periodic"),
     },
 ];
 
@@ -149,9 +86,7 @@ static SHAPE_KEYS: [Key; 7] = [
     Key {
         name: b"shape",
         kinds: &[],
-        wanted: Wanted::OneOf {
-            words: &[b"box", b"ball"],
-        },
+        wanted: Wanted::OneOf(&[b"box", b"ball"]),
         fallback: Fallback::Required,
     },
     Key {
@@ -163,46 +98,31 @@ static SHAPE_KEYS: [Key; 7] = [
     Key {
         name: b"low",
         kinds: &[b"box"],
-        wanted: Wanted::Triple {
-            low: 0,
-            high: FARTHEST,
-        },
+        wanted: Wanted::Triple(0, FARTHEST),
         fallback: Fallback::Required,
     },
     Key {
         name: b"high",
         kinds: &[b"box"],
-        wanted: Wanted::Triple {
-            low: 0,
-            high: FARTHEST,
-        },
+        wanted: Wanted::Triple(0, FARTHEST),
         fallback: Fallback::Required,
     },
     Key {
         name: b"center",
         kinds: &[b"ball"],
-        wanted: Wanted::Triple {
-            low: 0,
-            high: FARTHEST,
-        },
+        wanted: Wanted::Triple(0, FARTHEST),
         fallback: Fallback::Required,
     },
     Key {
         name: b"radius",
         kinds: &[b"ball"],
-        wanted: Wanted::Number {
-            low: 0,
-            high: FARTHEST,
-        },
+        wanted: Wanted::Number(0, FARTHEST),
         fallback: Fallback::Required,
     },
     Key {
         name: b"amount",
         kinds: &[],
-        wanted: Wanted::Number {
-            low: 0,
-            high: GREATEST_AMOUNT,
-        },
+        wanted: Wanted::Number(0, GREATEST_AMOUNT),
         fallback: Fallback::Required,
     },
 ];
@@ -221,19 +141,14 @@ static CRITERION_KEYS: [Key; 8] = [
     Key {
         name: b"type",
         kinds: &[],
-        wanted: Wanted::OneOf {
-            words: &[b"box", b"mass", b"slope", b"contrast"],
-        },
+        wanted: Wanted::OneOf(&[b"box", b"mass", b"slope", b"contrast"]),
         fallback: Fallback::Required,
     },
     Key {
         name: b"until",
         kinds: &[],
-        wanted: Wanted::Number {
-            low: 1,
-            high: LAST_PHASE,
-        },
-        fallback: Fallback::Number { number: LAST_PHASE },
+        wanted: Wanted::Number(1, LAST_PHASE),
+        fallback: Fallback::Number(LAST_PHASE),
     },
     Key {
         name: b"field",
@@ -244,28 +159,19 @@ static CRITERION_KEYS: [Key; 8] = [
     Key {
         name: b"low",
         kinds: &[b"box"],
-        wanted: Wanted::Triple {
-            low: 0,
-            high: FARTHEST,
-        },
+        wanted: Wanted::Triple(0, FARTHEST),
         fallback: Fallback::Required,
     },
     Key {
         name: b"high",
         kinds: &[b"box"],
-        wanted: Wanted::Triple {
-            low: 0,
-            high: FARTHEST,
-        },
+        wanted: Wanted::Triple(0, FARTHEST),
         fallback: Fallback::Required,
     },
     Key {
         name: b"level",
         kinds: &[b"box"],
-        wanted: Wanted::Number {
-            low: 0,
-            high: FINEST_LEVEL,
-        },
+        wanted: Wanted::Number(0, FINEST_LEVEL),
         fallback: Fallback::Required,
     },
     Key {
@@ -296,26 +202,20 @@ static METHOD_KEYS: [Key; 3] = [
     Key {
         name: b"velocity",
         kinds: &[],
-        wanted: Wanted::TripleUpTo { most: FASTEST },
+        wanted: Wanted::TripleUpTo(FASTEST),
         fallback: Fallback::ThreeZeros,
     },
     Key {
         name: b"den",
         kinds: &[],
-        wanted: Wanted::Number {
-            low: 1,
-            high: GREATEST_DEN,
-        },
-        fallback: Fallback::Number { number: 1 },
+        wanted: Wanted::Number(1, GREATEST_DEN),
+        fallback: Fallback::Number(1),
     },
     Key {
         name: b"cycles",
         kinds: &[],
-        wanted: Wanted::Number {
-            low: 0,
-            high: MOST_CYCLES,
-        },
-        fallback: Fallback::Number { number: 0 },
+        wanted: Wanted::Number(0, MOST_CYCLES),
+        fallback: Fallback::Number(0),
     },
 ];
 
@@ -333,29 +233,20 @@ static OUTPUT_KEYS: [Key; 3] = [
     Key {
         name: b"mesh",
         kinds: &[],
-        wanted: Wanted::Number {
-            low: 0,
-            high: MOST_CYCLES,
-        },
-        fallback: Fallback::Number { number: 0 },
+        wanted: Wanted::Number(0, MOST_CYCLES),
+        fallback: Fallback::Number(0),
     },
     Key {
         name: b"fields",
         kinds: &[],
-        wanted: Wanted::Number {
-            low: 0,
-            high: MOST_CYCLES,
-        },
-        fallback: Fallback::Number { number: 0 },
+        wanted: Wanted::Number(0, MOST_CYCLES),
+        fallback: Fallback::Number(0),
     },
     Key {
         name: b"checkpoint",
         kinds: &[],
-        wanted: Wanted::Number {
-            low: 0,
-            high: MOST_CYCLES,
-        },
-        fallback: Fallback::Number { number: 0 },
+        wanted: Wanted::Number(0, MOST_CYCLES),
+        fallback: Fallback::Number(0),
     },
 ];
 

@@ -12,6 +12,7 @@ mod cell_counts;
 mod checking;
 mod criterion;
 mod criterion_walk;
+mod entries;
 mod fault;
 mod field_names;
 mod forms;

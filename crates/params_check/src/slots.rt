@@ -9,7 +9,7 @@ ghost use Rattle.params_check.specs.Values.{number_of, numbers_in, same, size_in
 
 use crate::atoms::{number_of, size_of, word_of};
 use crate::axis_kind::{AxisKind, axis_kind};
-use crate::keys::Fallback;
+use crate::entries::Fallback;
 use crate::place::name;
 use cello_num::{Memory, Name};
 use params_syntax::{Atom, Value};
@@ -31,7 +31,7 @@ impl<'a> Slot<'a> {
             Some(Value::Atom(Atom::Number(number))) => number.unsigned_abs(),
             Some(_) => 0,
             None => match self.fallback {
-                Fallback::Number { number } => number,
+                Fallback::Number(number) => number,
                 _ => 0,
             },
         }
@@ -45,7 +45,7 @@ impl<'a> Slot<'a> {
             Some(Value::Atom(atom)) => word_of(atom),
             Some(_) => &[],
             None => match self.fallback {
-                Fallback::Word { word } => word,
+                Fallback::Word(word) => word,
                 _ => &[],
             },
         }
@@ -103,7 +103,7 @@ impl<'a> Slot<'a> {
                 _ => unreachable!(),
             },
             _ => match self.fallback {
-                Fallback::ThreeWords { word } => [axis_kind(word); 3],
+                Fallback::ThreeWords(word) => [axis_kind(word); 3],
                 _ => [AxisKind::Periodic; 3],
             },
         }

@@ -10,10 +10,11 @@ ghost use Rattle.params_check.specs.TreeValues.{fields_of, settings_of};
 ghost use Rattle.params_check.specs.Walks.{first_walk, keys_faults, second_walk};
 
 use crate::criterion_walk::walk_criteria;
+use crate::entries::Key;
 use crate::fault::CheckError;
 use crate::field_names::Names;
 use crate::key_walk::walk_keys;
-use crate::keys::{Key, field_keys, mesh_keys, method_keys, output_keys};
+use crate::keys::{field_keys, mesh_keys, method_keys, output_keys};
 use crate::lookup::{Lines, items_of};
 use crate::params::{Values, read_values};
 use crate::place::Place;

@@ -1,11 +1,11 @@
 -- The entries of the program's tables of keys, and its slots, as the specification has them.
 use Rattle.std.specs.Prelude.{Option, None, map}
 use Rattle.params_syntax.specs.declared.tree.Value.{Value}
-use Rattle.params_check.specs.declared.keys.Key.{Key}
-use Rattle.params_check.specs.declared.keys.Wanted.{Wanted}
-use Rattle.params_check.specs.declared.keys.Wanted.TheVariants as wanted
-use Rattle.params_check.specs.declared.keys.Fallback.{Fallback}
-use Rattle.params_check.specs.declared.keys.Fallback.TheVariants as fallback
+use Rattle.params_check.specs.declared.entries.Key.{Key}
+use Rattle.params_check.specs.declared.entries.Wanted.{Wanted}
+use Rattle.params_check.specs.declared.entries.Wanted.TheVariants as wanted
+use Rattle.params_check.specs.declared.entries.Fallback.{Fallback}
+use Rattle.params_check.specs.declared.entries.Fallback.TheVariants as fallback
 use Rattle.params_check.specs.Keys.{NumberFrom, EvenFrom, TripleFrom, TripleUpTo, OneOf, ThreeOf, NewNames, FieldName, Threshold, number, word, three_zeros, three_words, no_words}
 use Rattle.params_check.specs.Keys as keys
 
