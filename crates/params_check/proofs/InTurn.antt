@@ -2,7 +2,7 @@
 use Rattle.std.proofs.Common.{◌≡◌, ℕ, ◌+◌, ◌<◌, List, [], ◌∷◌, ◌++◌, length, get_or, take, drop, Option, Some, sym, ap, ◌∙◌}
 use Rattle.std.proofs.lemmas.List.{drop_more}
 use Rattle.params_check.specs.declared.fault.ParamFault.{ParamFault}
-use Rattle.params_check.specs.Firsts.{first_fault}
+use Rattle.params_check.specs.Lemmas.Firsts.{first_fault}
 use Rattle.params_check.specs.Walks.{in_turn}
 use Rattle.params_check.proofs.FirstFaults.{first_fault-found}
 

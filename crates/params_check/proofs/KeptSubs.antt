@@ -1,26 +1,17 @@
 -- Shapes and criteria of subs that two walks met no fault in.
-use Rattle.std.proofs.Common.{◌≡◌, ℕ, ◌+◌, ◌<◌, ◌≤◌, true, false, not, cond, List, [], ◌∷◌, length, codes, arith, All, inl, inr}
+use Rattle.std.proofs.Common.{◌≡◌, ℕ, ◌+◌, ◌<◌, ◌≤◌, true, not, List, [], ◌∷◌, length, codes, arith, refl, All, inl, inr}
 use Rattle.std.proofs.lemmas.Bool.{cases_Bool, cond-true, cond-false, not_from_true, not_from_false}
 use Rattle.std.proofs.lemmas.List.Elements.{All-weaker}
 use Rattle.params_syntax.specs.declared.tree.Setting.{Setting}
-use Rattle.params_check.specs.declared.shape.Form.{Form}
-use Rattle.params_check.specs.declared.shape.Form.TheVariants.{Cuboid, Ball}
-use Rattle.params_check.specs.declared.criterion.Test.{Test}
-use Rattle.params_check.specs.declared.criterion.Test.TheVariants.{Region}
-use Rattle.params_check.specs.Values.{same, SubGroup, value_of, size_or, word_or, sizes_or}
-use Rattle.params_check.specs.Keys.{Key, key, NewNames, is_among, shape_keys, criterion_keys}
-use Rattle.params_check.specs.Parameters.{position_of, form_of, shape_of, sampling_test, test_of, criterion_of}
+use Rattle.params_syntax.specs.Trees.{Each}
+use Rattle.params_check.specs.Bounds.{farthest}
+use Rattle.params_check.specs.Keys.{is_among, shape_kind, shape_field, shape_low, shape_high, shape_center, shape_radius, shape_keys, criterion_kind, criterion_field, criterion_low, criterion_high, criterion_level, criterion_refine, criterion_coarsen, criterion_keys}
 use Rattle.params_check.specs.Limits.{IsCorner, KeepsForm, KeepsShape, KeepsTest, KeepsCriterion}
+use Rattle.params_check.specs.TreeValues.{position_of, value_at, word_at, form_of, shape_of, test_of, criterion_of}
+use Rattle.params_check.specs.Values.{same}
+use Rattle.params_check.proofs.Fits.{AreThree, KeyFits, keys-fit}
 use Rattle.params_check.proofs.Once.{or_other, among-each}
-use Rattle.params_check.proofs.Forms.{Within, AreThree, number-kept, number-required, triple-required, word-required, field-required}
 use Rattle.params_check.proofs.WalkedKeys.{KeyKept}
-use Rattle.params_check.proofs.WalkedGroups.{SubKept}
-
--- what stands past the end of a table of keys
-abbrev no_key : Key
-no_key = key [] false NewNames
-
--- ---- shapes
 
 pub position_of-below : (word : List ℕ) (names : List (List ℕ)) → is_among names word ≡ true → position_of word names < length names
 position_of-below word [] h = absurd cc
@@ -32,126 +23,104 @@ position_of-below word (n ∷ names) h =
       | inr f ↦ omega (arith, cond-true {A = ℕ} test rest 0 (not_from_false (same n word) f), position_of-below word names (or_other (same n word) _ f h))
     ]
 
-corner : (xs : List ℕ) → AreThree 0 256 xs → IsCorner xs
-corner xs t = record { three = t.three; limits = All-weaker (Within 0 256) (λ x. x ≤ 256) (λ x w. w.1) xs t.limits }
-
-module _ (names : List (List ℕ)) (sets : List Setting) where
-  abbrev shape_kind : List ℕ
-  shape_kind = word_or [] (value_of (codes "shape") sets)
-
-  -- the form by its kind
-  abbrev form_by : List ℕ → Form
-  form_by kind =
-      cond (same kind (codes "ball"))
-      (Ball (sizes_or [] (value_of (codes "center") sets)) (size_or 0 (value_of (codes "radius") sets)))
-      (Cuboid (sizes_or [] (value_of (codes "low") sets)) (sizes_or [] (value_of (codes "high") sets)))
-
-  box-kept : All (KeyKept names (codes "box") sets) shape_keys → KeepsForm (form_by (codes "box"))
-  unfolding shape_keys
-  box-kept kept = (
-    corner (sizes_or [] (value_of (codes "low") sets)) (triple-required names 0 256 [] (value_of (codes "low") sets) (kept 2 no_key (omega arith))),
-    corner (sizes_or [] (value_of (codes "high") sets)) (triple-required names 0 256 [] (value_of (codes "high") sets) (kept 3 no_key (omega arith))),
-  )
-
-  ball-kept : All (KeyKept names (codes "ball") sets) shape_keys → KeepsForm (form_by (codes "ball"))
-  unfolding shape_keys
-  ball-kept kept = (
-    corner (sizes_or [] (value_of (codes "center") sets)) (triple-required names 0 256 [] (value_of (codes "center") sets) (kept 4 no_key (omega arith))),
-    (number-required names 0 256 0 (value_of (codes "radius") sets) (kept 5 no_key (omega arith))).1,
-  )
-
-  shape_kind-known : All (KeyKept names shape_kind sets) shape_keys → is_among (codes "box" ∷ codes "ball" ∷ []) shape_kind ≡ true
-  unfolding shape_keys
-  shape_kind-known kept =
-      word-required names (codes "box" ∷ codes "ball" ∷ []) [] (value_of (codes "shape") sets) (kept 0 no_key (omega arith))
-
-  form-kept : All (KeyKept names shape_kind sets) shape_keys → KeepsForm (form_by shape_kind)
-  form-kept kept =
-      among-each (λ kind. All (KeyKept names kind sets) shape_keys → KeepsForm (form_by kind))
-      (codes "box" ∷ codes "ball" ∷ []) shape_kind (shape_kind-known kept) (box-kept, (ball-kept, tt)) kept
-
-pub shape-kept : (names : List (List ℕ)) (sub : SubGroup) → SubKept names (codes "shape") shape_keys sub → KeepsShape (length names) (shape_of names sub)
-unfolding shape_keys shape_of form_of
-shape-kept names sub kept = record {
-  field =
-      position_of-below (word_or [] (value_of (codes "field") sub.sets)) names
-      (field-required names [] (value_of (codes "field") sub.sets) (kept 1 no_key (omega arith)));
-  amount = (number-required names 0 1099511627776 0 (value_of (codes "amount") sub.sets) (kept 6 no_key (omega arith))).1;
-  form = form-kept names sub.sets kept;
+pub corner : (low high : ℕ) (xs : List ℕ) → high ≤ farthest → AreThree low high xs → IsCorner xs
+corner low high xs near t = record {
+  three = t.three;
+  limits = All-weaker (λ x. (low ≤ x) × (x ≤ high)) (λ x. x ≤ farthest) (λ x w. omega (arith, near, w.1)) xs t.limits;
 }
 
--- ---- criteria
-
 module _ (names : List (List ℕ)) (sets : List Setting) where
-  abbrev test_kind : List ℕ
-  test_kind = word_or [] (value_of (codes "type") sets)
+  -- ---- shapes
 
-  abbrev test_field : ℕ
-  test_field = position_of (word_or [] (value_of (codes "field") sets)) names
+  -- each key of a shape of a kind fits
+  abbrev ShapeFits : List ℕ → Type 0
+  ShapeFits kind = Each (KeyFits names kind sets) shape_keys
 
-  abbrev refine_over : ℕ
-  refine_over = size_or 0 (value_of (codes "refine") sets)
+  -- the form of a kind keeps its limits
+  abbrev FormKept : List ℕ → Type 0
+  FormKept kind =
+      ShapeFits kind → KeepsForm (form_of kind (value_at shape_low sets) (value_at shape_high sets) (value_at shape_center sets) (value_at shape_radius sets))
 
-  abbrev coarsen_to : ℕ
-  coarsen_to = size_or 0 (value_of (codes "coarsen") sets)
+  box-kept : FormKept (codes "box")
+  unfolding shape_keys
+  box-kept fits = (corner 0 farthest _ (omega arith) fits.1.1.0, corner 0 farthest _ (omega arith) fits.1.1.1.0)
 
-  -- the test by its kind
-  abbrev test_by : List ℕ → Test
-  test_by kind =
-      cond (same kind (codes "box"))
-      (Region (sizes_or [] (value_of (codes "low") sets)) (sizes_or [] (value_of (codes "high") sets)) (size_or 0 (value_of (codes "level") sets)))
-      (sampling_test kind test_field refine_over coarsen_to)
+  ball-kept : FormKept (codes "ball")
+  unfolding shape_keys
+  ball-kept fits = (corner 0 farthest _ (omega arith) fits.1.1.1.1.0, fits.1.1.1.1.1.0.1)
 
-  -- criteria of this kind keep their limits
-  abbrev KindKept : List ℕ → Type 0
-  KindKept kind = All (KeyKept names kind sets) criterion_keys → KeepsTest (length names) (test_by kind)
+  shape-fits : (kind : List ℕ) → All (KeyKept names kind sets) shape_keys → ShapeFits kind
+  unfolding shape_keys
+  shape-fits kind kept = keys-fit names kind sets shape_keys refl kept
 
-  region-kept : KindKept (codes "box")
+  form-kept : (kind : List ℕ) → is_among (codes "box" ∷ codes "ball" ∷ []) kind ≡ true → FormKept kind
+  form-kept kind known = among-each FormKept (codes "box" ∷ codes "ball" ∷ []) kind known (box-kept, (ball-kept, tt))
+
+  pub shape-kept : (name : List ℕ) → All (KeyKept names (word_at shape_kind sets) sets) shape_keys
+      → KeepsShape (length names) (shape_of names (record { name = name; sets = sets }))
+  unfolding shape_keys
+  shape-kept name kept =
+      let kind = word_at shape_kind sets in
+      let fits = shape-fits kind kept in
+      record {
+        field = position_of-below (word_at shape_field sets) names fits.1.0;
+        amount = fits.1.1.1.1.1.1.0.1;
+        form = form-kept kind fits.0 fits;
+      }
+
+  -- ---- criteria
+
+  abbrev CriterionFits : List ℕ → Type 0
+  CriterionFits kind = Each (KeyFits names kind sets) criterion_keys
+
+  -- the test of a kind keeps its limits
+  abbrev TestKept : List ℕ → Type 0
+  TestKept kind =
+      CriterionFits kind
+      → KeepsTest (length names) (test_of names kind (value_at criterion_field sets) (value_at criterion_low sets) (value_at criterion_high sets)
+      (value_at criterion_level sets) (value_at criterion_refine sets) (value_at criterion_coarsen sets))
+
+  region-kept : TestKept (codes "box")
   unfolding criterion_keys
-  region-kept kept = (
-    corner (sizes_or [] (value_of (codes "low") sets)) (triple-required names 0 256 [] (value_of (codes "low") sets) (kept 3 no_key (omega arith))),
-    corner (sizes_or [] (value_of (codes "high") sets)) (triple-required names 0 256 [] (value_of (codes "high") sets) (kept 4 no_key (omega arith))),
-    (number-required names 0 6 0 (value_of (codes "level") sets) (kept 5 no_key (omega arith))).1,
-  )
+  region-kept fits = (corner 0 farthest _ (omega arith) fits.1.1.1.0, corner 0 farthest _ (omega arith) fits.1.1.1.1.0, fits.1.1.1.1.1.0.1)
 
-  mass-kept : KindKept (codes "mass")
+  mass-kept : TestKept (codes "mass")
   unfolding criterion_keys
-  mass-kept kept = record {
-    known = position_of-below (word_or [] (value_of (codes "field") sets)) names (field-required names [] (value_of (codes "field") sets) (kept 2 no_key (omega arith)));
-    refines = (number-required names 0 1099511627776 0 (value_of (codes "refine") sets) (kept 6 no_key (omega arith))).1;
-    coarsens = (number-required names 0 1099511627776 0 (value_of (codes "coarsen") sets) (kept 7 no_key (omega arith))).1;
+  mass-kept fits = record {
+    known = position_of-below (word_at criterion_field sets) names fits.1.1.0;
+    refines = fits.1.1.1.1.1.1.0;
+    coarsens = fits.1.1.1.1.1.1.1.0;
   }
 
-  slope-kept : KindKept (codes "slope")
+  slope-kept : TestKept (codes "slope")
   unfolding criterion_keys
-  slope-kept kept = record {
-    known = position_of-below (word_or [] (value_of (codes "field") sets)) names (field-required names [] (value_of (codes "field") sets) (kept 2 no_key (omega arith)));
-    refines = (number-required names 0 1000000 0 (value_of (codes "refine") sets) (kept 6 no_key (omega arith))).1;
-    coarsens = (number-required names 0 1000000 0 (value_of (codes "coarsen") sets) (kept 7 no_key (omega arith))).1;
+  slope-kept fits = record {
+    known = position_of-below (word_at criterion_field sets) names fits.1.1.0;
+    refines = fits.1.1.1.1.1.1.0;
+    coarsens = fits.1.1.1.1.1.1.1.0;
   }
 
-  contrast-kept : KindKept (codes "contrast")
+  contrast-kept : TestKept (codes "contrast")
   unfolding criterion_keys
-  contrast-kept kept = record {
-    known = position_of-below (word_or [] (value_of (codes "field") sets)) names (field-required names [] (value_of (codes "field") sets) (kept 2 no_key (omega arith)));
-    refines = (number-required names 0 1099511627776 0 (value_of (codes "refine") sets) (kept 6 no_key (omega arith))).1;
-    coarsens = (number-required names 0 1099511627776 0 (value_of (codes "coarsen") sets) (kept 7 no_key (omega arith))).1;
+  contrast-kept fits = record {
+    known = position_of-below (word_at criterion_field sets) names fits.1.1.0;
+    refines = fits.1.1.1.1.1.1.0;
+    coarsens = fits.1.1.1.1.1.1.1.0;
   }
 
-  test_kind-known : All (KeyKept names test_kind sets) criterion_keys
-      → is_among (codes "box" ∷ codes "mass" ∷ codes "slope" ∷ codes "contrast" ∷ []) test_kind ≡ true
+  criterion-fits : (kind : List ℕ) → All (KeyKept names kind sets) criterion_keys → CriterionFits kind
   unfolding criterion_keys
-  test_kind-known kept =
-      word-required names (codes "box" ∷ codes "mass" ∷ codes "slope" ∷ codes "contrast" ∷ []) []
-      (value_of (codes "type") sets) (kept 0 no_key (omega arith))
+  criterion-fits kind kept = keys-fit names kind sets criterion_keys refl kept
 
-  test-kept : KindKept test_kind
-  test-kept kept =
-      among-each KindKept (codes "box" ∷ codes "mass" ∷ codes "slope" ∷ codes "contrast" ∷ []) test_kind (test_kind-known kept)
-      (region-kept, (mass-kept, (slope-kept, (contrast-kept, tt)))) kept
+  test-kept : (kind : List ℕ) → is_among (codes "box" ∷ codes "mass" ∷ codes "slope" ∷ codes "contrast" ∷ []) kind ≡ true → TestKept kind
+  test-kept kind known =
+      among-each TestKept (codes "box" ∷ codes "mass" ∷ codes "slope" ∷ codes "contrast" ∷ []) kind known
+      (region-kept, (mass-kept, (slope-kept, (contrast-kept, tt))))
 
-pub criterion-kept : (names : List (List ℕ)) (sub : SubGroup) → SubKept names (codes "type") criterion_keys sub → KeepsCriterion (length names) (criterion_of names sub)
-unfolding criterion_keys criterion_of test_of
-criterion-kept names sub kept =
-    let until = number-kept names false true 1 8192 8192 (value_of (codes "until") sub.sets) (kept 1 no_key (omega arith)) (omega arith, omega arith) in
-    record { some = until.0; most = until.1; test = test-kept names sub.sets kept }
+  pub criterion-kept : (name : List ℕ) → All (KeyKept names (word_at criterion_kind sets) sets) criterion_keys
+      → KeepsCriterion (length names) (criterion_of names (record { name = name; sets = sets }))
+  unfolding criterion_keys
+  criterion-kept name kept =
+      let kind = word_at criterion_kind sets in
+      let fits = criterion-fits kind kept in
+      record { some = fits.1.0.0; most = fits.1.0.1; test = test-kept kind fits.0 fits }

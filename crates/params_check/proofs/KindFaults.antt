@@ -3,7 +3,7 @@ use Rattle.std.proofs.Common.{◌≡◌, ℕ, List, refl, sym, subst}
 use Rattle.params_syntax.specs.declared.tree.Item.{Item}
 use Rattle.params_check.specs.declared.group_kind.GroupKind.{GroupKind}
 use Rattle.params_check.specs.declared.group_kind.GroupKind.TheVariants.{Mesh, Field, Initial, Adapt, Method, Output}
-use Rattle.params_check.specs.Groups.{group_name, kind_faults}
+use Rattle.params_check.specs.Lemmas.Groups.{group_name, kind_faults}
 use Rattle.params_check.specs.Walks.{items_faults}
 
 by_kind : (kind : GroupKind) (items : List Item) → items_faults (group_name kind) items ≡ kind_faults (group_name kind) kind items

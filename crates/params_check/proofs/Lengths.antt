@@ -1,7 +1,7 @@
 -- How long the canonical texts of values, settings and subs are.
-use Rattle.std.proofs.Common.{◌≡◌, ℕ, ◌*◌, ◌≤◌, ℤ, pos, negsuc, true, ◌&&◌, nat_le, List, [], ◌∷◌, ◌++◌, length, map, codes, arith}
+use Rattle.std.proofs.Common.{◌≡◌, ℕ, ◌*◌, ◌≤◌, ℤ, pos, negsuc, Bool, true, ◌&&◌, ◌==◌, nat_le, List, [], ◌∷◌, ◌++◌, length, map, codes, arith}
 use Rattle.std.specs.Fmt.{signed_decimal}
-use Rattle.std.proofs.lemmas.Bool.{and_parts, leb-true}
+use Rattle.std.proofs.lemmas.Bool.{and_parts, leb-true, eqb-true}
 use Rattle.std.proofs.lemmas.List.{length-append}
 use Rattle.std.proofs.lemmas.Fmt.{length_signed_le}
 use Rattle.params_syntax.specs.declared.tree.Atom.{Atom}
@@ -12,8 +12,8 @@ use Rattle.params_syntax.specs.declared.tree.Setting.{Setting}
 use Rattle.params_syntax.specs.Trees.{Each, IsNumber, IsAtom, IsValue, IsSetting, IsName}
 use Rattle.params_syntax.specs.Canonical.{atom_text, elements_text, value_text, setting_text}
 use Rattle.params_check.specs.Values.{word_of}
-use Rattle.params_check.specs.Keys.{Wanted, NumberFrom, EvenFrom, TripleFrom, OneOf, ThreeOf, NewNames, FieldName, each, all_differ, is_number, is_word, is_field_name, has_form, is_in_range}
-use Rattle.params_check.proofs.Forms.{triple_of}
+use Rattle.params_check.specs.Forms.{each, all_differ, is_wanted, is_in_reach, has_form, is_in_range}
+use Rattle.params_check.specs.Keys.{Wanted, NumberFrom, EvenFrom, TripleFrom, TripleUpTo, OneOf, ThreeOf, NewNames, FieldName, Threshold}
 
 number-short : (z : ℤ) → IsNumber z → length (signed_decimal z) ≤ 20
 number-short (pos n) h = length_signed_le 19 (pos n) (omega arith) (omega arith)
@@ -35,27 +35,33 @@ elements-short (a ∷ b ∷ atoms) h =
       elements-short (b ∷ atoms) h.1,
     )
 
--- a list of a form that some key takes is short
-list-few : (names : List (List ℕ)) (w : Wanted) (atoms : List Atom) → has_form w (values.List atoms) ≡ true → is_in_range names w (values.List atoms) ≡ true
-    → length atoms ≤ 4
-list-few names (NumberFrom low high) atoms form range = absurd cc
-list-few names (EvenFrom low high) atoms form range = absurd cc
-list-few names (TripleFrom low high) atoms form range = omega (arith, (triple_of is_number atoms form).three)
-list-few names (OneOf words) atoms form range = absurd cc
-list-few names (ThreeOf words) atoms form range = omega (arith, (triple_of is_word atoms form).three)
-list-few names NewNames atoms form range =
-    let front = and_parts (nat_le (length atoms) 4 && each (λ a. is_field_name (word_of a)) atoms) (all_differ (map word_of atoms)) range in
-    leb-true (length atoms) 4 (and_parts (nat_le (length atoms) 4) (each (λ a. is_field_name (word_of a)) atoms) front.0).0
-list-few names FieldName atoms form range = absurd cc
+three : (b : Bool) (atoms : List Atom) → ((length atoms == 3) && b) ≡ true → length atoms ≤ 4
+three b atoms h = omega (arith, eqb-true (length atoms) 3 (and_parts (length atoms == 3) b h).0)
 
-pub value-short : (names : List (List ℕ)) (w : Wanted) (v : Value) → has_form w v ≡ true → is_in_range names w v ≡ true → IsValue v → length (value_text v) ≤ 146
-value-short names w (values.Atom a) form range h = omega (arith, atom-short a h)
-value-short names w (values.List atoms) form range h =
+-- a list of a form that some key takes is short
+list-few : (names : List (List ℕ)) (kind : List ℕ) (w : Wanted) (atoms : List Atom) → has_form w (values.List atoms) ≡ true
+    → is_in_range names kind w (values.List atoms) ≡ true → length atoms ≤ 4
+list-few names kind (NumberFrom low high) atoms form range = absurd cc
+list-few names kind (EvenFrom low high) atoms form range = absurd cc
+list-few names kind (TripleFrom low high) atoms form range = three (each (is_wanted (TripleFrom low high)) atoms) atoms form
+list-few names kind (TripleUpTo most) atoms form range = three (each (is_wanted (TripleUpTo most)) atoms) atoms form
+list-few names kind (OneOf words) atoms form range = absurd cc
+list-few names kind (ThreeOf words) atoms form range = three (each (is_wanted (ThreeOf words)) atoms) atoms form
+list-few names kind NewNames atoms form range =
+    let parts = and_parts (each (is_in_reach names kind NewNames) atoms) (nat_le (length atoms) 4 && all_differ (map word_of atoms)) range in
+    leb-true (length atoms) 4 (and_parts (nat_le (length atoms) 4) (all_differ (map word_of atoms)) parts.1).0
+list-few names kind FieldName atoms form range = absurd cc
+list-few names kind Threshold atoms form range = absurd cc
+
+pub value-short : (names : List (List ℕ)) (kind : List ℕ) (w : Wanted) (v : Value) → has_form w v ≡ true → is_in_range names kind w v ≡ true → IsValue v
+    → length (value_text v) ≤ 146
+value-short names kind w (values.Atom a) form range h = omega (arith, atom-short a h)
+value-short names kind w (values.List atoms) form range h =
     omega (
       arith,
       length-append (elements_text atoms) (codes "]"),
       elements-short atoms h.0,
-      list-few names w atoms form range,
+      list-few names kind w atoms form range,
     )
 
 pub name-short : (name : List ℕ) → IsName name → length name ≤ 32

@@ -11,9 +11,9 @@ use Rattle.params_syntax.specs.declared.tree.Group.{Group}
 use Rattle.params_syntax.specs.Trees.{IsTree}
 use Rattle.params_syntax.specs.Canonical.{canonical_text}
 use Rattle.params_check.specs.Examples.{drop_text}
-use Rattle.params_check.specs.Keys.{mesh_keys, field_keys, method_keys, output_keys, shape_keys, criterion_keys, axis_words}
-use Rattle.params_check.specs.Parameters.{form_of, shape_of, test_of, criterion_of, axes_of, grid_of_mesh, fields_of, values_of}
-use Rattle.params_check.specs.Walks.{items_faults, group_names, first_walk, second_walk, third_walk, total_of, all_faults, unless_fault, parameters_of}
+use Rattle.params_check.specs.Keys.{mesh_keys, field_keys, method_keys, output_keys, shape_keys, criterion_keys}
+use Rattle.params_check.specs.Parameters.{values_of, total_of}
+use Rattle.params_check.specs.Walks.{items_faults, group_names, first_walk, second_walk, third_walk, all_faults, unless_fault, parameters_of}
 
 abbrev setting : List ℕ → Value → Setting
 setting name value = record { name = name; value = value }
@@ -68,11 +68,11 @@ unfolding first_walk items_faults group_names mesh_keys field_keys method_keys o
 first-none = refl
 
 second-none : second_walk drop_tree ≡ []
-unfolding second_walk fields_of mesh_keys field_keys method_keys output_keys shape_keys criterion_keys axis_words
+unfolding second_walk mesh_keys field_keys method_keys output_keys shape_keys criterion_keys
 second-none = refl
 
 third-none : third_walk (values_of drop_tree) ≡ []
-unfolding third_walk values_of grid_of_mesh axes_of fields_of shape_of form_of criterion_of test_of
+unfolding third_walk values_of
 third-none = refl
 
 no-fault : all_faults drop_tree ≡ []
@@ -89,5 +89,5 @@ unfolding digits drop_text
 drop_tree-text = refl
 
 pub drop_tree-total : total_of (values_of drop_tree) 0 ≡ 1
-unfolding values_of grid_of_mesh axes_of fields_of shape_of form_of criterion_of test_of
+unfolding values_of
 drop_tree-total = refl

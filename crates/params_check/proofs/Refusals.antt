@@ -1,25 +1,18 @@
 -- What three walks say of the parameters of a tree: the first fault of the first walk that has one, or the values.
-use Rattle.std.proofs.Common.{◌≡◌, ℕ, ◌^◌, ◌≤◌, List, [], ◌∷◌, ◌++◌, Option, Some, None, Ok, Err, refl, sym, ap, ◌∙◌, subst, All}
+use Rattle.std.proofs.Common.{◌≡◌, ◌≤◌, List, [], ◌∷◌, ◌++◌, Some, None, Ok, Err, sym, ap, ◌∙◌, subst}
 use Rattle.std.specs.declared.result.Result.{Result}
 use Rattle.std.specs.Result.{IsErrAnd, IfErr}
-use Rattle.std.proofs.lemmas.List.Elements.{All-weaker}
 use Rattle.params_syntax.specs.declared.tree.Group.{Group}
 use Rattle.params_syntax.specs.Trees.{IsTree}
-use Rattle.params_syntax.specs.Canonical.{canonical_text}
 use Rattle.params_check.specs.declared.fault.ParamFault.{ParamFault}
 use Rattle.params_check.specs.declared.fault.CheckError.{CheckError}
 use Rattle.params_check.specs.declared.fault.CheckError.TheVariants.{Param, Memory}
-use Rattle.params_check.specs.declared.shape.Shape.{Shape}
-use Rattle.params_check.specs.declared.value_walk.GroupValues.{GroupValues}
-use Rattle.params_check.specs.Firsts.{first_fault}
-use Rattle.params_check.specs.Limits.{KeepsForm, KeepsShape, IsParameters}
-use Rattle.params_check.specs.Parameters.{Parameters, values_of}
-use Rattle.params_check.specs.ReadValues.{parameters_with}
+use Rattle.params_check.specs.Lemmas.Firsts.{first_fault}
+use Rattle.params_check.specs.Bounds.{greatest_edge, most_blocks}
+use Rattle.params_check.specs.Parameters.{IsParameters, values_of}
 use Rattle.params_check.specs.Walks.{first_walk, second_walk, third_walk, all_faults, unless_fault, parameters_of, IsRefused}
-use Rattle.params_check.proofs.FirstFaults.{first_fault-found, first_fault-passed, no_first_fault}
-use Rattle.params_check.proofs.KeptValues.{KeepsValues, values_keep_ranges}
-use Rattle.params_check.proofs.NoFaults.{parameters_keep_limits}
-use Rattle.params_check.proofs.SecondWalk.{IsFirst}
+use Rattle.params_check.proofs.FirstFaults.{IsFirst, first_fault-found, first_fault-passed, no_first_fault}
+use Rattle.params_check.proofs.NoFaults.{blocks-kept, parameters_keep_limits}
 
 refused_by : {A : Type 0} (faults : List ParamFault) (x : A) (f : ParamFault) → first_fault faults ≡ Some f → unless_fault faults x ≡ Err f
 refused_by [] x f e = absurd cc
@@ -62,9 +55,9 @@ module _ (groups : List Group) where
   walked-third Memory first second found = tt
 
   module _ (first : first_fault (first_walk groups) ≡ None) (second : first_fault (second_walk groups) ≡ None) where
-    -- the values keep their ranges after two walks
-    pub walked-ranges : IsTree groups → KeepsValues (values_of groups)
-    walked-ranges limits = values_keep_ranges groups limits (no_first_fault (first_walk groups) first) (no_first_fault (second_walk groups) second)
+    -- the blocks keep their ranges after two walks
+    pub walked-blocks : ((values_of groups).block ≤ greatest_edge) × ((values_of groups).max_blocks ≤ most_blocks)
+    walked-blocks = blocks-kept groups (no_first_fault (second_walk groups) second)
 
     module _ (none : first_fault third ≡ None) where
       no_fault : all_faults groups ≡ []
@@ -79,34 +72,8 @@ module _ (groups : List Group) where
       pub walked-limits : IsTree groups → IsParameters (values_of groups)
       walked-limits limits = parameters_keep_limits groups limits no_fault
 
--- shapes of known fields keep their own limits
-pub shapes-kept : (fields : ℕ) (shapes : List Shape) → All (KeepsShape fields) shapes → All (λ s. KeepsForm s.form × (s.amount ≤ 2 ^ 40)) shapes
-shapes-kept fields shapes kept =
-    All-weaker (KeepsShape fields) (λ s. KeepsForm s.form × (s.amount ≤ 2 ^ 40)) (λ s one. (one.form, one.amount)) shapes kept
-
 -- what a step answers is why the tree is refused
 pub refused-err : {A : Type 0} (groups : List Group) (r : Result A CheckError) (e : CheckError) → IsErrAnd r (λ error. error ≡ e) → IsRefused groups e
     → IfErr r (λ error. IsRefused groups error)
 refused-err groups (Ok x) e given refused = tt
 refused-err groups (Err error) e given refused = subst (IsRefused groups) (sym given) refused
-
--- ---- values that were read
-
--- the third walk doesn't look at the text
-third-text : (v : GroupValues) (text : List ℕ) → third_walk (parameters_with v []) ≡ third_walk (parameters_with v text)
-unfolding third_walk
-third-text v text = refl
-
-module _ (groups : List Group) (v : GroupValues) (are : parameters_with v (canonical_text groups) ≡ values_of groups) where
-  -- the third walk over the values that were read is that over the tree's
-  pub third-read : third_walk (parameters_with v []) ≡ third_walk (values_of groups)
-  third-read = third-text v (canonical_text groups) ∙ ap third_walk are
-
-  -- the values that were read keep their ranges
-  pub ranges-read : IsTree groups → first_fault (first_walk groups) ≡ None → first_fault (second_walk groups) ≡ None
-      → KeepsValues (parameters_with v (canonical_text groups))
-  ranges-read limits first second = subst KeepsValues (sym are) (walked-ranges groups first second limits)
-
-  -- with their text they are the tree's values
-  pub all-read : (text : List ℕ) → text ≡ canonical_text groups → parameters_with v text ≡ values_of groups
-  all-read text is = ap (parameters_with v) is ∙ are

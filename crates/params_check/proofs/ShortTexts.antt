@@ -10,9 +10,9 @@ use Rattle.params_syntax.specs.declared.tree.Item.TheVariants.{Set, Sub}
 use Rattle.params_syntax.specs.declared.tree.Group.{Group}
 use Rattle.params_syntax.specs.Trees.{Each, IsSetting, IsItem, IsGroup, IsTree}
 use Rattle.params_syntax.specs.Canonical.{setting_text, item_text, group_text, canonical_text}
-use Rattle.params_check.specs.Values.{same, items_of, settings_among, subs_among, value_of, word_or}
-use Rattle.params_check.specs.Keys.{Key, is_among, mesh_keys, field_keys, method_keys, output_keys, shape_keys, criterion_keys}
-use Rattle.params_check.specs.Parameters.{fields_of}
+use Rattle.params_check.specs.Values.{same, items_of, settings_among, subs_among}
+use Rattle.params_check.specs.Keys.{Key, is_among, mesh_keys, field_keys, method_keys, output_keys, shape_kind, shape_keys, criterion_kind, criterion_keys}
+use Rattle.params_check.specs.TreeValues.{word_at, fields_of}
 use Rattle.params_check.specs.Walks.{in_turn, plain_item_faults, plain_faults, sub_faults, sub_setting_faults, group_of_subs_faults, items_faults, group_names, first_walk, second_walk}
 use Rattle.params_check.proofs.Turns.{none-first, none-second, InTurn}
 use Rattle.params_check.proofs.Once.{StandsOnce, has_name, WeighsAtMost, sum-once, weight_left, same-true, same-itself, among-each}
@@ -61,7 +61,7 @@ sub-short group names kind keys name sets few e kept h =
       name-short name h.0,
     )
 
-subs-sum : (group : List ℕ) (names : List (List ℕ)) (kind_key : List ℕ) (keys : List Key) (before items : List Item) → length keys ≤ 8
+subs-sum : (group : List ℕ) (names : List (List ℕ)) (kind_key : Key) (keys : List Key) (before items : List Item) → length keys ≤ 8
     → in_turn (sub_faults group keys) before items ≡ [] → All (SubKept names kind_key keys) (subs_among items) → Each IsItem items
     → length (flat_map item_text items) ≤ length items * 1537
 subs-sum group names kind_key keys before [] few e kept h = omega arith
@@ -73,12 +73,12 @@ subs-sum group names kind_key keys before (Sub name sets ∷ items) few e kept h
     omega (
       arith,
       length-append (item_text (Sub name sets)) (flat_map item_text items),
-      sub-short group names (word_or [] (value_of kind_key sets)) keys name sets few inside (All-head (SubKept names kind_key keys) _ (subs_among items) kept) h.0,
+      sub-short group names (word_at kind_key sets) keys name sets few inside (All-head (SubKept names kind_key keys) _ (subs_among items) kept) h.0,
       subs-sum group names kind_key keys (before ++ Sub name sets ∷ []) items few (none-second here rest e)
           (All-tail (SubKept names kind_key keys) _ (subs_among items) kept) h.1,
     )
 
-subs-short : (group : List ℕ) (names : List (List ℕ)) (kind_key : List ℕ) (keys : List Key) (items : List Item) → length keys ≤ 8
+subs-short : (group : List ℕ) (names : List (List ℕ)) (kind_key : Key) (keys : List Key) (items : List Item) → length keys ≤ 8
     → group_of_subs_faults group keys items ≡ [] → All (SubKept names kind_key keys) (subs_among items) → Each IsItem items
     → length (flat_map item_text items) ≤ 24592
 subs-short group names kind_key keys items few e kept h =
@@ -98,38 +98,38 @@ ItemsShort all name =
 mesh-short : (all : List Group) → AllKept all → ItemsShort all (codes "Mesh")
 unfolding items_faults mesh_keys
 mesh-short all kept items e none h =
-    plain-short (codes "Mesh") (fields_of all) mesh_keys items (omega arith) none
-    (subst (λ (l : List Item). All (KeyKept (fields_of all) [] (settings_among l)) mesh_keys) e kept.mesh) h
+    plain-short (codes "Mesh") [] mesh_keys items (omega arith) none
+    (subst (λ (l : List Item). All (KeyKept [] [] (settings_among l)) mesh_keys) e kept.mesh) h
 
 field-short : (all : List Group) → AllKept all → ItemsShort all (codes "Field")
 unfolding items_faults field_keys
 field-short all kept items e none h =
-    plain-short (codes "Field") (fields_of all) field_keys items (omega arith) none
-    (subst (λ (l : List Item). All (KeyKept (fields_of all) [] (settings_among l)) field_keys) e kept.field) h
+    plain-short (codes "Field") [] field_keys items (omega arith) none
+    (subst (λ (l : List Item). All (KeyKept [] [] (settings_among l)) field_keys) e kept.field) h
 
 method-short : (all : List Group) → AllKept all → ItemsShort all (codes "Method")
 unfolding items_faults method_keys
 method-short all kept items e none h =
-    plain-short (codes "Method") (fields_of all) method_keys items (omega arith) none
-    (subst (λ (l : List Item). All (KeyKept (fields_of all) [] (settings_among l)) method_keys) e kept.method) h
+    plain-short (codes "Method") [] method_keys items (omega arith) none
+    (subst (λ (l : List Item). All (KeyKept [] [] (settings_among l)) method_keys) e kept.method) h
 
 output-short : (all : List Group) → AllKept all → ItemsShort all (codes "Output")
 unfolding items_faults output_keys
 output-short all kept items e none h =
-    plain-short (codes "Output") (fields_of all) output_keys items (omega arith) none
-    (subst (λ (l : List Item). All (KeyKept (fields_of all) [] (settings_among l)) output_keys) e kept.output) h
+    plain-short (codes "Output") [] output_keys items (omega arith) none
+    (subst (λ (l : List Item). All (KeyKept [] [] (settings_among l)) output_keys) e kept.output) h
 
 initial-short : (all : List Group) → AllKept all → ItemsShort all (codes "Initial")
 unfolding items_faults shape_keys
 initial-short all kept items e none h =
-    subs-short (codes "Initial") (fields_of all) (codes "shape") shape_keys items (omega arith) none
-    (subst (λ (l : List Item). All (SubKept (fields_of all) (codes "shape") shape_keys) (subs_among l)) e kept.shapes) h
+    subs-short (codes "Initial") (fields_of all) shape_kind shape_keys items (omega arith) none
+    (subst (λ (l : List Item). All (SubKept (fields_of all) shape_kind shape_keys) (subs_among l)) e kept.shapes) h
 
 adapt-short : (all : List Group) → AllKept all → ItemsShort all (codes "Adapt")
 unfolding items_faults criterion_keys
 adapt-short all kept items e none h =
-    subs-short (codes "Adapt") (fields_of all) (codes "type") criterion_keys items (omega arith) none
-    (subst (λ (l : List Item). All (SubKept (fields_of all) (codes "type") criterion_keys) (subs_among l)) e kept.criteria) h
+    subs-short (codes "Adapt") (fields_of all) criterion_kind criterion_keys items (omega arith) none
+    (subst (λ (l : List Item). All (SubKept (fields_of all) criterion_kind criterion_keys) (subs_among l)) e kept.criteria) h
 
 items-short : (all : List Group) → AllKept all → (name : List ℕ) → is_among group_names name ≡ true → ItemsShort all name
 unfolding group_names

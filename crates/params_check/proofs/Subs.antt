@@ -1,12 +1,12 @@
 -- A walk over the items of a group of subs, one item after another: what was made of the subs so far, and the faults
 -- of what is left.
-use Rattle.std.proofs.Common.{◌≡◌, ℕ, ◌+◌, ◌<◌, ◌≤◌, List, [], ◌∷◌, ◌++◌, length, get_or, drop, map, flat_map, Option, Some, None, refl, sym, ap, ◌∙◌, append_assoc}
+use Rattle.std.proofs.Common.{◌≡◌, ℕ, ◌+◌, ◌<◌, ◌≤◌, List, [], ◌∷◌, ◌++◌, length, get_or, drop, map, flat_map, Some, None, refl, sym, ap, ◌∙◌, append_assoc}
 use Rattle.std.proofs.lemmas.List.{drop_more, append-nil, drop_all}
 use Rattle.params_syntax.specs.declared.tree.Setting.{Setting}
 use Rattle.params_syntax.specs.declared.tree.Item.{Item}
 use Rattle.params_syntax.specs.declared.tree.Item.TheVariants.{Set, Sub}
 use Rattle.params_check.specs.declared.fault.ParamFault.{ParamFault}
-use Rattle.params_check.specs.Firsts.{first_fault}
+use Rattle.params_check.specs.Lemmas.Firsts.{first_fault}
 use Rattle.params_check.specs.Values.{SubGroup, subs_among}
 use Rattle.params_check.proofs.FirstFaults.{first_fault-passed, first_fault-found}
 

@@ -7,9 +7,9 @@ use Rattle.params_syntax.specs.declared.tree.Item.{Item}
 use Rattle.params_syntax.specs.declared.tree.Item.TheVariants.{Set, Sub}
 use Rattle.params_syntax.specs.declared.tree.Group.{Group}
 use Rattle.params_check.specs.declared.fault.ParamKind.TheVariants.{Unknown, Repeated, OutOfRange}
-use Rattle.params_check.specs.Values.{same, items_of, SubGroup, subs_among, value_of, word_or}
-use Rattle.params_check.specs.Keys.{Key, is_among, mesh_keys, field_keys, method_keys, output_keys, shape_keys, criterion_keys}
-use Rattle.params_check.specs.Parameters.{settings_of, subs_of, fields_of}
+use Rattle.params_check.specs.Values.{same, items_of, SubGroup, subs_among}
+use Rattle.params_check.specs.Keys.{Key, is_among, mesh_keys, field_keys, method_keys, output_keys, shape_kind, shape_keys, criterion_kind, criterion_keys}
+use Rattle.params_check.specs.TreeValues.{settings_of, subs_of, word_at, fields_of}
 use Rattle.params_check.specs.Walks.{fault, fault_if, in_turn, item_name, sub_faults, sub_setting_faults, group_of_subs_faults, items_faults, group_names, group_faults, first_walk, keys_faults, subs_faults, second_walk}
 use Rattle.params_check.proofs.Turns.{none-first, none-second, fault_if-none, flat_map-none, InTurn, InTurn-none, InTurn-length}
 use Rattle.params_check.proofs.Once.{StandsOnce, same-true}
@@ -89,44 +89,44 @@ subs_among-length (Sub name sets ∷ items) = omega (arith, subs_among-length it
 -- ---- the second walk
 
 -- each key of the sub is one that its kind takes
-abbrev pub SubKept : List (List ℕ) → List ℕ → List Key → SubGroup → Type 0
-SubKept names kind_key keys sub = All (KeyKept names (word_or [] (value_of kind_key sub.sets)) sub.sets) keys
+abbrev pub SubKept : List (List ℕ) → Key → List Key → SubGroup → Type 0
+SubKept names kind_key keys sub = All (KeyKept names (word_at kind_key sub.sets) sub.sets) keys
 
-pub subs-kept : (group : List ℕ) (names : List (List ℕ)) (kind_key : List ℕ) (keys : List Key) (subs : List SubGroup) → subs_faults group names kind_key keys subs ≡ []
+pub subs-kept : (group : List ℕ) (names : List (List ℕ)) (kind_key : Key) (keys : List Key) (subs : List SubGroup) → subs_faults group names kind_key keys subs ≡ []
     → All (SubKept names kind_key keys) subs
 subs-kept group names kind_key keys subs e =
-    let f = λ (sub : SubGroup). keys_faults group sub.name names (word_or [] (value_of kind_key sub.sets)) sub.sets keys in
+    let f = λ (sub : SubGroup). keys_faults group sub.name names (word_at kind_key sub.sets) sub.sets keys in
     All-weaker (λ sub. f sub ≡ []) (SubKept names kind_key keys)
-    (λ sub none. keys-kept group sub.name names (word_or [] (value_of kind_key sub.sets)) sub.sets keys none) subs (flat_map-none f subs e)
+    (λ sub none. keys-kept group sub.name names (word_at kind_key sub.sets) sub.sets keys none) subs (flat_map-none f subs e)
 
 -- The values of all settings are ones that their keys take.
 pub record AllKept (groups : List Group) : Type 0 where
-  pub mesh : All (KeyKept (fields_of groups) [] (settings_of (codes "Mesh") groups)) mesh_keys
-  pub field : All (KeyKept (fields_of groups) [] (settings_of (codes "Field") groups)) field_keys
-  pub shapes : All (SubKept (fields_of groups) (codes "shape") shape_keys) (subs_of (codes "Initial") groups)
-  pub criteria : All (SubKept (fields_of groups) (codes "type") criterion_keys) (subs_of (codes "Adapt") groups)
-  pub method : All (KeyKept (fields_of groups) [] (settings_of (codes "Method") groups)) method_keys
-  pub output : All (KeyKept (fields_of groups) [] (settings_of (codes "Output") groups)) output_keys
+  pub mesh : All (KeyKept [] [] (settings_of (codes "Mesh") groups)) mesh_keys
+  pub field : All (KeyKept [] [] (settings_of (codes "Field") groups)) field_keys
+  pub shapes : All (SubKept (fields_of groups) shape_kind shape_keys) (subs_of (codes "Initial") groups)
+  pub criteria : All (SubKept (fields_of groups) criterion_kind criterion_keys) (subs_of (codes "Adapt") groups)
+  pub method : All (KeyKept [] [] (settings_of (codes "Method") groups)) method_keys
+  pub output : All (KeyKept [] [] (settings_of (codes "Output") groups)) output_keys
 
 pub all-kept : (groups : List Group) → second_walk groups ≡ [] → AllKept groups
 unfolding second_walk
 all-kept groups e =
     let names = fields_of groups in
-    let a = keys_faults (codes "Mesh") [] names [] (settings_of (codes "Mesh") groups) mesh_keys in
-    let b = keys_faults (codes "Field") [] names [] (settings_of (codes "Field") groups) field_keys in
-    let c = subs_faults (codes "Initial") names (codes "shape") shape_keys (subs_of (codes "Initial") groups) in
-    let d = subs_faults (codes "Adapt") names (codes "type") criterion_keys (subs_of (codes "Adapt") groups) in
-    let m = keys_faults (codes "Method") [] names [] (settings_of (codes "Method") groups) method_keys in
-    let o = keys_faults (codes "Output") [] names [] (settings_of (codes "Output") groups) output_keys in
+    let a = keys_faults (codes "Mesh") [] [] [] (settings_of (codes "Mesh") groups) mesh_keys in
+    let b = keys_faults (codes "Field") [] [] [] (settings_of (codes "Field") groups) field_keys in
+    let c = subs_faults (codes "Initial") names shape_kind shape_keys (subs_of (codes "Initial") groups) in
+    let d = subs_faults (codes "Adapt") names criterion_kind criterion_keys (subs_of (codes "Adapt") groups) in
+    let m = keys_faults (codes "Method") [] [] [] (settings_of (codes "Method") groups) method_keys in
+    let o = keys_faults (codes "Output") [] [] [] (settings_of (codes "Output") groups) output_keys in
     let abcdm = none-first (a ++ b ++ c ++ d ++ m) o e in
     let abcd = none-first (a ++ b ++ c ++ d) m abcdm in
     let abc = none-first (a ++ b ++ c) d abcd in
     let ab = none-first (a ++ b) c abc in
     record {
-      mesh = keys-kept (codes "Mesh") [] names [] (settings_of (codes "Mesh") groups) mesh_keys (none-first a b ab);
-      field = keys-kept (codes "Field") [] names [] (settings_of (codes "Field") groups) field_keys (none-second a b ab);
-      shapes = subs-kept (codes "Initial") names (codes "shape") shape_keys (subs_of (codes "Initial") groups) (none-second (a ++ b) c abc);
-      criteria = subs-kept (codes "Adapt") names (codes "type") criterion_keys (subs_of (codes "Adapt") groups) (none-second (a ++ b ++ c) d abcd);
-      method = keys-kept (codes "Method") [] names [] (settings_of (codes "Method") groups) method_keys (none-second (a ++ b ++ c ++ d) m abcdm);
-      output = keys-kept (codes "Output") [] names [] (settings_of (codes "Output") groups) output_keys (none-second (a ++ b ++ c ++ d ++ m) o e);
+      mesh = keys-kept (codes "Mesh") [] [] [] (settings_of (codes "Mesh") groups) mesh_keys (none-first a b ab);
+      field = keys-kept (codes "Field") [] [] [] (settings_of (codes "Field") groups) field_keys (none-second a b ab);
+      shapes = subs-kept (codes "Initial") names shape_kind shape_keys (subs_of (codes "Initial") groups) (none-second (a ++ b) c abc);
+      criteria = subs-kept (codes "Adapt") names criterion_kind criterion_keys (subs_of (codes "Adapt") groups) (none-second (a ++ b ++ c) d abcd);
+      method = keys-kept (codes "Method") [] [] [] (settings_of (codes "Method") groups) method_keys (none-second (a ++ b ++ c ++ d) m abcdm);
+      output = keys-kept (codes "Output") [] [] [] (settings_of (codes "Output") groups) output_keys (none-second (a ++ b ++ c ++ d ++ m) o e);
     }

@@ -1,5 +1,6 @@
 -- Settings that two walks met no fault in: each key is known and stands once, and each value is one that its key takes.
 use Rattle.std.proofs.Common.{◌≡◌, ℕ, ◌+◌, ◌*◌, ◌≤◌, Bool, true, false, not, ◌&&◌, List, [], ◌∷◌, ◌++◌, Option, Some, None, length, flat_map, arith, refl, ap, ◌∙◌, subst, All}
+use Rattle.std.specs.Prelude.{is_none}
 use Rattle.std.specs.List.{list_any}
 use Rattle.std.proofs.lemmas.Bool.{not-false, or_parts, or_from}
 use Rattle.std.proofs.lemmas.List.{length-append}
@@ -14,12 +15,13 @@ use Rattle.params_syntax.specs.Canonical.{setting_text}
 use Rattle.params_check.specs.declared.fault.ParamFault.{ParamFault}
 use Rattle.params_check.specs.declared.fault.ParamKind.TheVariants.{Missing, Unknown, Repeated, WrongForm, OutOfRange}
 use Rattle.params_check.specs.Values.{same, value_of, settings_among}
-use Rattle.params_check.specs.Keys.{Key, has_form, is_in_range}
+use Rattle.params_check.specs.Forms.{has_form, is_in_range, is_had}
+use Rattle.params_check.specs.Keys.{Key}
 use Rattle.params_check.specs.Walks.{fault, fault_if, in_turn, item_name, has_key, plain_item_faults, plain_faults, sub_setting_faults, key_faults, keys_faults}
 use Rattle.params_check.proofs.Turns.{none-first, none-second, fault_if-none, flat_map-none, InTurn, InTurn-none}
 use Rattle.params_check.proofs.Once.{WeighsAtMost, sum-once, weight_left-even}
 use Rattle.params_check.proofs.Settings.{KeyOnce, IsFound, settings-found, keys-known, at_key, All-from_Each}
-use Rattle.params_check.proofs.Forms.{Kept}
+use Rattle.params_check.proofs.Fits.{Kept}
 use Rattle.params_check.proofs.Lengths.{value-short, setting-short}
 
 -- ---- the first walk
@@ -73,19 +75,19 @@ plain-once group keys items e = plain-once_from group keys [] items e
 -- ---- the second walk
 
 abbrev pub KeyKept : List (List ℕ) → List ℕ → List Setting → Key → Type 0
-KeyKept names kind sets k = Kept names k.required (k.had_by kind) (k.wanted kind) (value_of k.name sets)
+KeyKept names kind sets k = Kept names kind k (value_of k.name sets)
 
 key-kept : (group sub : List ℕ) (names : List (List ℕ)) (kind : List ℕ) (k : Key) (o : Option Value) → key_faults group sub names kind k o ≡ []
-    → Kept names k.required (k.had_by kind) (k.wanted kind) o
-key-kept group sub names kind k None e = fault_if-none (k.required && k.had_by kind) (fault group sub k.name Missing) e
+    → Kept names kind k o
+key-kept group sub names kind k None e = fault_if-none (is_none k.default && is_had k kind) (fault group sub k.name Missing) e
 key-kept group sub names kind k (Some v) e =
-    let unknown = fault_if (not (k.had_by kind)) (fault group sub k.name Unknown) in
-    let wrong = fault_if (not (has_form (k.wanted kind) v)) (fault group sub k.name WrongForm) in
-    let out = fault_if (not (is_in_range names (k.wanted kind) v)) (fault group sub k.name OutOfRange) in
+    let unknown = fault_if (not (is_had k kind)) (fault group sub k.name Unknown) in
+    let wrong = fault_if (not (has_form k.wanted v)) (fault group sub k.name WrongForm) in
+    let out = fault_if (not (is_in_range names kind k.wanted v)) (fault group sub k.name OutOfRange) in
     let front = none-first (unknown ++ wrong) out e in (
-      not-false (k.had_by kind) (fault_if-none _ (fault group sub k.name Unknown) (none-first unknown wrong front)),
-      not-false (has_form (k.wanted kind) v) (fault_if-none _ (fault group sub k.name WrongForm) (none-second unknown wrong front)),
-      not-false (is_in_range names (k.wanted kind) v) (fault_if-none _ (fault group sub k.name OutOfRange) (none-second (unknown ++ wrong) out e)),
+      not-false (is_had k kind) (fault_if-none _ (fault group sub k.name Unknown) (none-first unknown wrong front)),
+      not-false (has_form k.wanted v) (fault_if-none _ (fault group sub k.name WrongForm) (none-second unknown wrong front)),
+      not-false (is_in_range names kind k.wanted v) (fault_if-none _ (fault group sub k.name OutOfRange) (none-second (unknown ++ wrong) out e)),
     )
 
 pub keys-kept : (group sub : List ℕ) (names : List (List ℕ)) (kind : List ℕ) (sets : List Setting) (keys : List Key) → keys_faults group sub names kind sets keys ≡ []
@@ -102,8 +104,8 @@ module _ (names : List (List ℕ)) (kind : List ℕ) (keys : List Key) (sets : L
   found-short kept s found known h =
       let k = at_key (KeyKept names kind sets) keys s.name known kept in
       let o : value_of k.0.name sets ≡ Some s.value = ap (λ (n : List ℕ). value_of n sets) k.1 ∙ found in
-      let good = subst (Kept names k.0.required (k.0.had_by kind) (k.0.wanted kind)) o k.2 in
-      setting-short s h (value-short names (k.0.wanted kind) s.value good.1 good.2 h.1)
+      let good = subst (Kept names kind k.0) o k.2 in
+      setting-short s h (value-short names kind k.0.wanted s.value good.1 good.2 h.1)
 
   -- the text of each setting is short
   pub settings-short : InTurn (KeyOnce keys) [] sets → All (KeyKept names kind sets) keys → Each IsSetting sets → All (λ s. length (setting_text s) ≤ 183) sets

@@ -1,13 +1,12 @@
+-- The definitions: first those that public contracts rest on.
 pub mod Values
+pub mod Bounds
 pub mod Keys
+pub mod Forms
 pub mod Amounts
-pub mod CellCounts
+pub mod Limits
+pub mod TreeValues
 pub mod Parameters
 pub mod Walks
-pub mod Limits
-pub mod Firsts
-pub mod Entries
-pub mod Groups
-pub mod Grids
 pub mod Examples
-pub mod ReadValues
+pub mod Lemmas

@@ -1,5 +1,5 @@
 -- Settings and subs of a tree by their names, and the values of settings.
-use Rattle.std.specs.Prelude.{ℕ, ℤ, pos, List, [], ◌∷◌, ◌++◌, Bool, cond, map, length, nat_abs, nat_eq, Option, Some, None}
+use Rattle.std.specs.Prelude.{ℕ, ℤ, pos, List, [], ◌∷◌, Bool, cond, map, nat_abs, nat_eq, Option, Some, None}
 use Rattle.std.specs.Cmp.Lexicographic.{pointwise}
 use Rattle.params_syntax.specs.declared.tree.Atom.{Atom}
 use Rattle.params_syntax.specs.declared.tree.Atom.TheVariants.{Number, Word}
@@ -57,27 +57,27 @@ word_of (Number z) = []
 word_of (Word word) = word
 
 -- the value as a number, a word, a list of numbers or a list of words; or what it is otherwise
-abbrev pub size_or : ℕ → Option Value → ℕ
-size_or default None = default
-size_or default (Some (values.Atom atom)) = size_of atom
-size_or default (Some (values.List atoms)) = default
+abbrev pub size_in : Option Value → ℕ
+size_in None = 0
+size_in (Some (values.Atom atom)) = size_of atom
+size_in (Some (values.List atoms)) = 0
 
-abbrev pub word_or : List ℕ → Option Value → List ℕ
-word_or default None = default
-word_or default (Some (values.Atom atom)) = word_of atom
-word_or default (Some (values.List atoms)) = default
+abbrev pub word_in : Option Value → List ℕ
+word_in None = []
+word_in (Some (values.Atom atom)) = word_of atom
+word_in (Some (values.List atoms)) = []
 
-abbrev pub numbers_or : List ℤ → Option Value → List ℤ
-numbers_or default None = default
-numbers_or default (Some (values.Atom atom)) = default
-numbers_or default (Some (values.List atoms)) = map number_of atoms
+abbrev pub numbers_in : Option Value → List ℤ
+numbers_in None = []
+numbers_in (Some (values.Atom atom)) = []
+numbers_in (Some (values.List atoms)) = map number_of atoms
 
-abbrev pub sizes_or : List ℕ → Option Value → List ℕ
-sizes_or default None = default
-sizes_or default (Some (values.Atom atom)) = default
-sizes_or default (Some (values.List atoms)) = map size_of atoms
+abbrev pub sizes_in : Option Value → List ℕ
+sizes_in None = []
+sizes_in (Some (values.Atom atom)) = []
+sizes_in (Some (values.List atoms)) = map size_of atoms
 
-abbrev pub words_or : List (List ℕ) → Option Value → List (List ℕ)
-words_or default None = default
-words_or default (Some (values.Atom atom)) = default
-words_or default (Some (values.List atoms)) = map word_of atoms
+abbrev pub words_in : Option Value → List (List ℕ)
+words_in None = []
+words_in (Some (values.Atom atom)) = []
+words_in (Some (values.List atoms)) = map word_of atoms

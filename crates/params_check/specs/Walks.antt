@@ -1,5 +1,5 @@
 -- The faults of a tree in the order of three walks. The fault that is answered is the first of them.
-use Rattle.std.specs.Prelude.{◌≡◌, ℕ, ◌+◌, ◌*◌, ◌^◌, ℤ, pos, List, [], ◌∷◌, ◌++◌, Bool, true, false, not, ◌&&◌, ◌||◌, nat_le, nat_lt, cond, max, nat_abs, length, slice_index, slice_index_or, codes, Option, Some, None, Ok, Err}
+use Rattle.std.specs.Prelude.{◌≡◌, ℕ, ◌*◌, ◌^◌, List, [], ◌∷◌, ◌++◌, Bool, not, ◌&&◌, ◌||◌, nat_le, nat_lt, cond, length, slice_index_or, codes, Option, Some, None, is_none, Ok, Err}
 use Rattle.std.specs.declared.result.Result.{Result}
 use Rattle.std.specs.List.{flat_map, list_any, range_with_len}
 use Rattle.params_syntax.specs.declared.tree.Value.{Value}
@@ -12,10 +12,12 @@ use Rattle.params_check.specs.declared.fault.ParamKind.{ParamKind}
 use Rattle.params_check.specs.declared.fault.ParamKind.TheVariants.{Missing, Unknown, Repeated, WrongForm, OutOfRange, Size, Courant, TotalTooLarge}
 use Rattle.params_check.specs.declared.fault.CheckError.{CheckError}
 use Rattle.params_check.specs.declared.fault.CheckError.TheVariants.{Param, Memory}
-use Rattle.params_check.specs.Values.{same, SubGroup, value_of, word_or}
-use Rattle.params_check.specs.Keys.{Key, is_among, mesh_keys, field_keys, method_keys, output_keys, shape_keys, criterion_keys, has_form, is_in_range}
-use Rattle.params_check.specs.Amounts.{initial_total}
-use Rattle.params_check.specs.Parameters.{Parameters, settings_of, subs_of, fields_of, values_of}
+use Rattle.params_check.specs.Bounds.{most_cells, most_subs, greatest_amount}
+use Rattle.params_check.specs.Forms.{has_form, is_in_range, is_had}
+use Rattle.params_check.specs.Keys.{Key, is_among, mesh_keys, field_keys, method_keys, output_keys, shape_kind, shape_keys, criterion_kind, criterion_keys}
+use Rattle.params_check.specs.Parameters.{Parameters, values_of, trees, most_amounts, speed, total_of}
+use Rattle.params_check.specs.TreeValues.{settings_of, subs_of, word_at, fields_of}
+use Rattle.params_check.specs.Values.{same, SubGroup, value_of}
 
 abbrev pub fault : List ℕ → List ℕ → List ℕ → ParamKind → ParamFault
 fault group sub name kind = record { group = group; sub = sub; key = name; kind = kind }
@@ -49,12 +51,12 @@ sub_setting_faults group sub keys before s =
     fault_if (not (has_key keys s.name)) (fault group sub s.name Unknown)
     ++ fault_if (list_any (λ t. same t.name s.name) before) (fault group sub s.name Repeated)
 
--- The first walk over the items of a group of subs, of which it has at most 16.
+-- The first walk over the items of a group of subs.
 abbrev pub sub_faults : List ℕ → List Key → List Item → Item → List ParamFault
 sub_faults group keys before (Set s) = fault group [] s.name WrongForm ∷ []
 sub_faults group keys before (Sub name sets) =
     fault_if (list_any (λ item. same (item_name item) name) before) (fault group name [] Repeated)
-    ++ fault_if (nat_le 16 (length before)) (fault group name [] OutOfRange)
+    ++ fault_if (nat_le most_subs (length before)) (fault group name [] OutOfRange)
     ++ in_turn (sub_setting_faults group name keys) [] sets
 
 abbrev pub plain_faults : List ℕ → List Key → List Item → List ParamFault
@@ -89,13 +91,13 @@ first_walk groups = in_turn group_faults [] groups
 -- the faults of a value
 abbrev pub value_faults : List ℕ → List ℕ → List (List ℕ) → List ℕ → Key → Value → List ParamFault
 value_faults group sub names kind k value =
-    fault_if (not (k.had_by kind)) (fault group sub k.name Unknown)
-    ++ fault_if (not (has_form (k.wanted kind) value)) (fault group sub k.name WrongForm)
-    ++ fault_if (not (is_in_range names (k.wanted kind) value)) (fault group sub k.name OutOfRange)
+    fault_if (not (is_had k kind)) (fault group sub k.name Unknown)
+    ++ fault_if (not (has_form k.wanted value)) (fault group sub k.name WrongForm)
+    ++ fault_if (not (is_in_range names kind k.wanted value)) (fault group sub k.name OutOfRange)
 
 -- the faults of a key whose value is there or not
 abbrev pub key_faults : List ℕ → List ℕ → List (List ℕ) → List ℕ → Key → Option Value → List ParamFault
-key_faults group sub names kind k None = fault_if (k.required && k.had_by kind) (fault group sub k.name Missing)
+key_faults group sub names kind k None = fault_if (is_none k.default && is_had k kind) (fault group sub k.name Missing)
 key_faults group sub names kind k (Some value) = value_faults group sub names kind k value
 
 -- the second walk over the keys of a group or a sub
@@ -103,45 +105,28 @@ abbrev pub keys_faults : List ℕ → List ℕ → List (List ℕ) → List ℕ 
 keys_faults group sub names kind sets keys = flat_map (λ k. key_faults group sub names kind k (value_of k.name sets)) keys
 
 -- the second walk over the subs of a group, whose kinds stand under a key
-abbrev pub subs_faults : List ℕ → List (List ℕ) → List ℕ → List Key → List SubGroup → List ParamFault
+abbrev pub subs_faults : List ℕ → List (List ℕ) → Key → List Key → List SubGroup → List ParamFault
 subs_faults group names kind_key keys subs =
-    flat_map (λ sub. keys_faults group sub.name names (word_or [] (value_of kind_key sub.sets)) sub.sets keys) subs
+    flat_map (λ sub. keys_faults group sub.name names (word_at kind_key sub.sets) sub.sets keys) subs
 
--- The second walk: all keys in the order of the table.
+-- The second walk: all keys in the order of the table. Only keys of subs look at the names of the fields.
 unfoldable pub second_walk : List Group → List ParamFault
 second_walk groups =
-    let names = fields_of groups in
-    keys_faults (codes "Mesh") [] names [] (settings_of (codes "Mesh") groups) mesh_keys
-    ++ keys_faults (codes "Field") [] names [] (settings_of (codes "Field") groups) field_keys
-    ++ subs_faults (codes "Initial") names (codes "shape") shape_keys (subs_of (codes "Initial") groups)
-    ++ subs_faults (codes "Adapt") names (codes "type") criterion_keys (subs_of (codes "Adapt") groups)
-    ++ keys_faults (codes "Method") [] names [] (settings_of (codes "Method") groups) method_keys
-    ++ keys_faults (codes "Output") [] names [] (settings_of (codes "Output") groups) output_keys
-
--- how many trees there are
-abbrev pub trees : Parameters → ℕ
-trees p = p.grid.trees_x * p.grid.trees_y * p.grid.trees_z
-
--- how many amounts the blocks can hold in all
-abbrev pub most_amounts : Parameters → ℕ
-most_amounts p = p.max_blocks * (p.block * p.block * p.block) * max 1 (length p.fields)
-
--- how fast amounts move, all axes together
-abbrev pub speed : Parameters → ℕ
-speed p = nat_abs (slice_index_or p.velocity 0 (pos 0)) + nat_abs (slice_index_or p.velocity 1 (pos 0)) + nat_abs (slice_index_or p.velocity 2 (pos 0))
-
--- the initial total of a field, by its position
-abbrev pub total_of : Parameters → ℕ → ℕ
-total_of p field = initial_total p.grid p.block p.shapes field
+    keys_faults (codes "Mesh") [] [] [] (settings_of (codes "Mesh") groups) mesh_keys
+    ++ keys_faults (codes "Field") [] [] [] (settings_of (codes "Field") groups) field_keys
+    ++ subs_faults (codes "Initial") (fields_of groups) shape_kind shape_keys (subs_of (codes "Initial") groups)
+    ++ subs_faults (codes "Adapt") (fields_of groups) criterion_kind criterion_keys (subs_of (codes "Adapt") groups)
+    ++ keys_faults (codes "Method") [] [] [] (settings_of (codes "Method") groups) method_keys
+    ++ keys_faults (codes "Output") [] [] [] (settings_of (codes "Output") groups) output_keys
 
 abbrev pub total_faults : Parameters → ℕ → List ParamFault
 total_faults p field =
-    fault_if (nat_lt 1099511627776 (total_of p field)) (fault (codes "Initial") [] (slice_index_or p.fields field []) TotalTooLarge)
+    fault_if (nat_lt greatest_amount (total_of p field)) (fault (codes "Initial") [] (slice_index_or p.fields field []) TotalTooLarge)
 
 -- The third walk: what several values must meet together.
 unfoldable pub third_walk : Parameters → List ParamFault
 third_walk p =
-    fault_if (nat_lt p.max_blocks (trees p) || nat_lt 67108864 (most_amounts p)) (fault (codes "Mesh") [] (codes "max_blocks") Size)
+    fault_if (nat_lt p.max_blocks (trees p) || nat_lt most_cells (most_amounts p)) (fault (codes "Mesh") [] (codes "max_blocks") Size)
     ++ fault_if (nat_lt p.den (speed p * 2 ^ p.grid.finest)) (fault (codes "Method") [] (codes "velocity") Courant)
     ++ flat_map (total_faults p) (range_with_len 0 (length p.fields))
 

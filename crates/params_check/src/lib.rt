@@ -1,35 +1,35 @@
 //! The parameters of a run, out of the tree of their text.
 //!
-//! `check` answers the parameters of a tree, or the first fault that three walks meet. The table of keys stands in
-//! `specs/Keys.antt`, the values in `specs/Parameters.antt`, the walks in `specs/Walks.antt`. `Params` keeps all
-//! limits, which `specs/Limits.antt` names.
+//! `check` answers the parameters of a tree, or the first fault that three walks meet. A key has one entry in
+//! `keys.rt` and one in `specs/Keys.antt`, from which both walks and the values come. What the parameters are, and all
+//! limits that `Params` keeps, is `specs/Parameters.antt`; the walks are `specs/Walks.antt`.
 #![tactic(auto)]
 
-mod adapt_group;
+mod atoms;
 mod axis_kind;
+mod bounds;
 mod cell_counts;
 mod checking;
 mod criterion;
-mod criterion_group;
-mod entry;
+mod criterion_walk;
+mod entries;
 mod fault;
-mod field_group;
 mod field_names;
+mod forms;
 mod group_kind;
-mod initial_group;
+mod key_walk;
+mod keys;
 mod lookup;
-mod mesh_group;
-mod method_group;
 mod name_walk;
-mod numbers;
 mod parameter_laws;
 mod params;
+mod place;
 mod shape;
-mod shape_group;
+mod shape_walk;
+mod slots;
 mod together;
 mod totals;
 mod value_walk;
-mod words;
 
 pub use axis_kind::AxisKind;
 pub use checking::check;

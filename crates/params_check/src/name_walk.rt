@@ -2,20 +2,18 @@
 ghost use Rattle.std.specs.Prelude.{◌≡◌, []};
 ghost use Rattle.std.specs.List.{list_any};
 ghost use Rattle.std.specs.Result.{result_err};
-ghost use Rattle.params_check.specs.Firsts.{first_fault};
-ghost use Rattle.params_check.specs.Groups.{keys_of, kind_faults};
+ghost use Rattle.params_check.specs.Lemmas.Firsts.{first_fault};
+ghost use Rattle.params_check.specs.Lemmas.Groups.{keys_of, kind_faults};
 ghost use Rattle.params_check.specs.Values.{same};
 ghost use Rattle.params_check.specs.Walks.{fault, group_faults, group_of_subs_faults, item_name, plain_faults, plain_item_faults, sub_faults, sub_setting_faults, in_turn};
 
-use crate::entry::name;
+use crate::bounds::MOST_SUBS;
 use crate::fault::{ParamFault, ParamKind};
 use crate::group_kind::{GroupKind, group_kind, has_key};
 use crate::lookup::same;
+use crate::place::{Place, name};
 use cello_num::Name;
 use params_syntax::{Group, Item, Setting};
-
-/// How many subs a group has at most.
-const MOST_SUBS: usize = 16;
 
 /// The first walk over all groups.
 pub(crate) fn walk_names(groups: &[Group]) -> Result<(), ParamFault>

@@ -6,9 +6,8 @@ ghost use Rattle.params_syntax.specs.Trees.{IsTree};
 ghost use Rattle.params_syntax.specs.Canonical.{canonical_text};
 ghost use Rattle.params_syntax.specs.Reading.{Spells};
 ghost use Rattle.params_check.specs.Examples.{drop_text};
-ghost use Rattle.params_check.specs.Parameters.{Parameters};
-ghost use Rattle.params_check.specs.Limits.{IsParameters};
-ghost use Rattle.params_check.specs.Walks.{total_of, parameters_of};
+ghost use Rattle.params_check.specs.Parameters.{IsParameters, Parameters, total_of};
+ghost use Rattle.params_check.specs.Walks.{parameters_of};
 
 /// Accepted parameters keep all limits.
 pub fn accepted_parameters()

@@ -1,69 +1,45 @@
 //! The third walk: what several values must meet together.
-ghost use Rattle.std.specs.Prelude.{◌≡◌, ◌+◌, ◌*◌, ◌^◌, ◌≤◌, ◌||◌, pos, [], All, length, max, nat_abs, nat_lt, slice_index_or};
+ghost use Rattle.std.specs.Prelude.{◌≡◌, ◌+◌, ◌*◌, ◌^◌, ◌≤◌, ◌||◌, pos, [], length, nat_abs, nat_lt, slice_index_or};
 ghost use Rattle.std.specs.List.{flat_map, range_with_len};
 ghost use Rattle.std.specs.Result.{result_err};
-ghost use Rattle.params_check.specs.Firsts.{first_fault};
-ghost use Rattle.params_check.specs.Limits.{KeepsForm};
-ghost use Rattle.params_check.specs.ReadValues.{parameters_with};
-ghost use Rattle.params_check.specs.Walks.{fault, third_walk, total_faults};
+ghost use Rattle.params_check.specs.Lemmas.Firsts.{first_fault};
+ghost use Rattle.params_check.specs.Bounds.{greatest_edge, most_blocks, most_cells, most_fields};
+ghost use Rattle.params_check.specs.Parameters.{most_amounts, speed, trees};
+ghost use Rattle.params_check.specs.Walks.{third_walk, total_faults};
 
-use crate::entry::name;
+use crate::bounds::{GREATEST_AMOUNT, MOST_CELLS};
 use crate::fault::{ParamFault, ParamKind};
-use crate::mesh_group::Mesh;
-use crate::method_group::Method;
+use crate::params::Values;
+use crate::place::{Place, name};
 use crate::totals::initial_total;
-use crate::value_walk::GroupValues;
 use block_index::Domain;
 use cello_num::Name;
 
-/// How many amounts the blocks hold at most.
-const MOST_AMOUNTS: u64 = 67_108_864;
-
-/// The greatest initial total of a field.
-const GREATEST_TOTAL: u128 = 1_099_511_627_776;
-
 /// The third walk over the values of a text.
 #[tactic(auto, unfolding(crate::specs::Walks::third_walk))]
-pub(crate) fn walk_together(values: &GroupValues) -> Result<(), ParamFault>
-    requires block { values.now.mesh.block ≤ 16 }
-    requires few_blocks { values.now.mesh.max_blocks ≤ 8192 }
-    requires shapes { All (λ s. KeepsForm s.form × (s.amount ≤ 2 ^ 40)) values.now.shapes }
-    ensures fault { first_fault (third_walk (parameters_with values.now [])) ≡ result_err result }
+pub(crate) fn walk_together(values: &Values) -> Result<(), ParamFault>
+    requires block { values.now.block ≤ greatest_edge }
+    requires few_blocks { values.now.max_blocks ≤ most_blocks }
+    ensures fault { first_fault (third_walk values.now) ≡ result_err result }
 {
-    if is_too_large(&values.mesh, values.fields.items().len()) {
-        return Err(key_fault(b"Mesh", b"max_blocks", ParamKind::Size));
+    if is_too_large(values) {
+        return Err(Place::of_group(b"Mesh").fault(name(b"max_blocks"), ParamKind::Size));
     }
-    if is_too_fast(&values.method, values.mesh.domain.max_level()) {
-        return Err(key_fault(b"Method", b"velocity", ParamKind::Courant));
+    if is_too_fast(values) {
+        return Err(Place::of_group(b"Method").fault(name(b"velocity"), ParamKind::Courant));
     }
     walk_totals(values)
 }
 
-/// A fault of a key of a group.
-fn key_fault(group: &[u8], key: &[u8], kind: ParamKind) -> ParamFault
-    requires group { length group.now ≤ 32 }
-    requires key { length key.now ≤ 32 }
-    ensures fault { result ≡ fault group.now [] key.now kind }
-{
-    ParamFault {
-        group: name(group),
-        sub: name(b""),
-        key: name(key),
-        kind,
-    }
-}
-
 /// Whether there are more trees than blocks, or the blocks hold too many amounts.
-fn is_too_large(mesh: &Mesh, fields: usize) -> bool
-    requires block { mesh.now.block ≤ 16 }
-    requires few_blocks { mesh.now.max_blocks ≤ 8192 }
-    requires few_fields { fields ≤ 4 }
-    ensures large { result ≡ (nat_lt mesh.now.max_blocks (mesh.now.domain.trees_x * mesh.now.domain.trees_y * mesh.now.domain.trees_z)
-        || nat_lt 67108864 (mesh.now.max_blocks * (mesh.now.block * mesh.now.block * mesh.now.block) * max 1 fields)) }
+fn is_too_large(values: &Values) -> bool
+    requires block { values.now.block ≤ greatest_edge }
+    requires few_blocks { values.now.max_blocks ≤ most_blocks }
+    ensures large { result ≡ (nat_lt values.now.max_blocks (trees values.now) || nat_lt most_cells (most_amounts values.now)) }
 {
-    let blocks = u64::from(mesh.max_blocks);
-    let amounts = blocks * cell_count(mesh.block) * 1u64.max(fields as u64);
-    tree_count(&mesh.domain) > blocks || amounts > MOST_AMOUNTS
+    let fields = values.fields.items().len() as u64;
+    let amounts = values.max_blocks * cell_count(values.block) * 1u64.max(fields);
+    tree_count(&values.domain) > values.max_blocks || amounts > MOST_CELLS
 }
 
 /// How many trees a domain has.
@@ -75,38 +51,35 @@ fn tree_count(domain: &Domain) -> u64
 }
 
 /// How many cells a block has.
-fn cell_count(block: u16) -> u64
-    requires small { block ≤ 16 }
+fn cell_count(block: u64) -> u64
+    requires small { block ≤ greatest_edge }
     ensures cells { result ≡ block * block * block }
     ensures few { result ≤ 4096 }
 {
-    let block = u64::from(block);
     block * block * block
 }
 
 /// Whether a cell of the finest level could give out more than it has.
-fn is_too_fast(method: &Method, max_level: u8) -> bool
-    requires level { max_level ≤ 6 }
-    ensures fast { result ≡ nat_lt method.now.den ((nat_abs (slice_index_or method.now.velocity 0 (pos 0)) + nat_abs (slice_index_or method.now.velocity 1 (pos 0))
-        + nat_abs (slice_index_or method.now.velocity 2 (pos 0))) * 2 ^ max_level) }
+fn is_too_fast(values: &Values) -> bool
+    ensures fast { result ≡ nat_lt values.now.den (speed values.now * 2 ^ values.now.grid.finest) }
 {
-    speed(method.velocity) * 2u64.pow(u32::from(max_level)) > u64::from(method.den)
+    let times = 2u128.pow(u32::from(values.domain.max_level()));
+    speed(values.velocity) * times > u128::from(values.den)
 }
 
 /// How fast amounts move, all axes together.
-fn speed(velocity: [i32; 3]) -> u64
+fn speed(velocity: [i64; 3]) -> u128
     ensures speed { result ≡ nat_abs (slice_index_or velocity 0 (pos 0)) + nat_abs (slice_index_or velocity 1 (pos 0)) + nat_abs (slice_index_or velocity 2 (pos 0)) }
-    ensures low { result ≤ 2 ^ 33 }
+    ensures low { result ≤ 2 ^ 65 }
 {
     let [x, y, z] = velocity;
-    u64::from(x.unsigned_abs()) + u64::from(y.unsigned_abs()) + u64::from(z.unsigned_abs())
+    u128::from(x.unsigned_abs()) + u128::from(y.unsigned_abs()) + u128::from(z.unsigned_abs())
 }
 
 /// The third walk over the totals of all fields.
-fn walk_totals(values: &GroupValues) -> Result<(), ParamFault>
-    requires block { values.now.mesh.block ≤ 16 }
-    requires shapes { All (λ s. KeepsForm s.form × (s.amount ≤ 2 ^ 40)) values.now.shapes }
-    ensures fault { first_fault (flat_map (total_faults (parameters_with values.now [])) (range_with_len 0 (length values.now.fields))) ≡ result_err result }
+fn walk_totals(values: &Values) -> Result<(), ParamFault>
+    requires block { values.now.block ≤ greatest_edge }
+    ensures fault { first_fault (flat_map (total_faults values.now) (range_with_len 0 (length values.now.fields))) ≡ result_err result }
 {
     for (i, field_name) in values.fields.items().iter().enumerate() {
         walk_total(values, i as u8, field_name)?;
@@ -115,20 +88,16 @@ fn walk_totals(values: &GroupValues) -> Result<(), ParamFault>
 }
 
 /// The third walk over the total of a field.
-fn walk_total(values: &GroupValues, field: u8, field_name: &Name) -> Result<(), ParamFault>
-    requires block { values.now.mesh.block ≤ 16 }
-    requires shapes { All (λ s. KeepsForm s.form × (s.amount ≤ 2 ^ 40)) values.now.shapes }
+fn walk_total(values: &Values, field: u8, field_name: &Name) -> Result<(), ParamFault>
+    requires block { values.now.block ≤ greatest_edge }
     requires name { field_name.now ≡ slice_index_or values.now.fields field [] }
-    ensures fault { first_fault (total_faults (parameters_with values.now []) field) ≡ result_err result }
+    ensures fault { first_fault (total_faults values.now field) ≡ result_err result }
 {
     let shapes = values.shapes.items();
-    if initial_total(&values.mesh.domain, values.mesh.block, shapes, field) > GREATEST_TOTAL {
-        return Err(ParamFault {
-            group: name(b"Initial"),
-            sub: name(b""),
-            key: *field_name,
-            kind: ParamKind::TotalTooLarge,
-        });
+    if initial_total(&values.domain, values.block as u16, shapes, field)
+        > u128::from(GREATEST_AMOUNT)
+    {
+        return Err(Place::of_group(b"Initial").fault(*field_name, ParamKind::TotalTooLarge));
     }
     Ok(())
 }

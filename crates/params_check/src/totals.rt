@@ -1,7 +1,7 @@
 //! The initial totals of fields.
-ghost use Rattle.std.specs.Prelude.{◌≡◌, ◌*◌, ◌^◌, ◌≤◌, length, All};
+ghost use Rattle.std.specs.Prelude.{◌≡◌, ◌*◌, ◌^◌, ◌≤◌, length};
 ghost use Rattle.params_check.specs.Amounts.{initial_total};
-ghost use Rattle.params_check.specs.Limits.{KeepsForm};
+ghost use Rattle.params_check.specs.Bounds.{greatest_edge, most_subs};
 
 use crate::cell_counts::cell_count;
 use crate::shape::Shape;
@@ -9,9 +9,8 @@ use block_index::Domain;
 
 /// The initial total of a field: what its shapes put into the root cells of the domain.
 pub(crate) fn initial_total(domain: &Domain, block: u16, shapes: &[Shape], field: u8) -> u128
-    requires block { block ≤ 16 }
-    requires few { length shapes.now ≤ 16 }
-    requires limits { All (λ s. KeepsForm s.form × (s.amount ≤ 2 ^ 40)) shapes.now }
+    requires block { block ≤ greatest_edge }
+    requires few { length shapes.now ≤ most_subs }
     ensures total { result ≡ initial_total domain.now block shapes.now field }
 {
     let [trees_x, trees_y, trees_z] = domain.array();

@@ -1,13 +1,12 @@
 -- Each walk answers its first fault, where no walk before has one; else the values are the tree's.
-use Rattle.std.proofs.Common.{◌≡◌, ◌∙◌, length, sym, ap, subst, Ok}
+use Rattle.std.proofs.Common.{◌∙◌, ◌≤◌, sym, ap, subst, Ok}
 use Rattle.params_check.specs.declared.fault.CheckError.TheVariants.{Param}
-use Rattle.params_check.specs.declared.value_walk.GroupValues.{GroupValues}
-use Rattle.params_check.specs.Firsts.{first_fault}
-use Rattle.params_check.specs.Limits.{IsParameters}
-use Rattle.params_check.specs.Walks.{first_walk, second_walk}
-use Rattle.params_check.proofs.FirstFaults.{no_first_fault}
-use Rattle.params_check.proofs.SecondWalk.{first-of}
-use Rattle.params_check.proofs.Refusals.{walked-first, walked-second, walked-third, walked-accepted, walked-limits, shapes-kept, refused-err, third-read, ranges-read, all-read}
+use Rattle.params_check.specs.Bounds.{greatest_edge, most_blocks}
+use Rattle.params_check.specs.Lemmas.Firsts.{first_fault}
+use Rattle.params_check.specs.Parameters.{Parameters, IsParameters}
+use Rattle.params_check.specs.Walks.{first_walk, second_walk, third_walk}
+use Rattle.params_check.proofs.FirstFaults.{first-of, no_first_fault}
+use Rattle.params_check.proofs.Refusals.{walked-first, walked-second, walked-third, walked-blocks, walked-accepted, walked-limits, refused-err}
 use Rattle.params_check.proofs.checking.check.Goals as goal
 
 pub returns-in_err-walk_names-clause-fault : goal.returns-in_err-walk_names-clause-fault
@@ -19,14 +18,17 @@ returns-in_err-walk_names-clause-fault c =
 
 pub walk_values-requires : goal.walk_values-requires
 unfolding first_walk
-walk_values-requires c = record { named = no_first_fault (first_walk c.items-groups.result.now) c.in_ok-walk_names.ensures.fault }
+walk_values-requires c = record {
+  named = no_first_fault (first_walk c.items-groups.result.now) c.in_ok-walk_names.ensures.fault;
+  text = rw c.items-groups.ensures.items c.in_ok-text.ensures.text;
+}
 
 pub returns-in_err-values-clause-fault : goal.returns-in_err-values-clause-fault
 unfolding first_walk
 returns-in_err-values-clause-fault c =
     let e = c.in_err-values.field-0.0 in
     let first = rw c.items-groups.ensures.items at c.in_ok-walk_names.ensures.fault in
-    let found = first-of GroupValues (second_walk c.items-groups.result.now) (second_walk c.args.tree.now) e (ap second_walk c.items-groups.ensures.items) c.in_err-values.ensures.fault in
+    let found = first-of Parameters (second_walk c.items-groups.result.now) (second_walk c.args.tree.now) e (ap second_walk c.items-groups.ensures.items) c.in_err-values.ensures.fault in
     refused-err c.args.tree.now c.from_residual-in_err-values.result e c.from_residual-in_err-values.ensures.1 (walked-second c.args.tree.now e first found)
 
 pub walk_together-requires-clause-block : goal.walk_together-requires-clause-block
@@ -35,7 +37,7 @@ walk_together-requires-clause-block c =
     let first = rw c.items-groups.ensures.items at c.in_ok-walk_names.ensures.fault in
     let second = rw c.items-groups.ensures.items at c.in_ok-values.ensures.fault in
     let are = rw c.items-groups.ensures.items at c.in_ok-values.ensures.values in
-    (ranges-read c.args.tree.now c.in_ok-values.values are c.items-groups.ensures.limits first second).block.high
+    subst (λ (p : Parameters). p.block ≤ greatest_edge) (sym are) (walked-blocks c.args.tree.now first second).0
 
 pub walk_together-requires-clause-few_blocks : goal.walk_together-requires-clause-few_blocks
 unfolding first_walk
@@ -43,15 +45,7 @@ walk_together-requires-clause-few_blocks c =
     let first = rw c.items-groups.ensures.items at c.in_ok-walk_names.ensures.fault in
     let second = rw c.items-groups.ensures.items at c.in_ok-values.ensures.fault in
     let are = rw c.items-groups.ensures.items at c.in_ok-values.ensures.values in
-    (ranges-read c.args.tree.now c.in_ok-values.values are c.items-groups.ensures.limits first second).most_blocks
-
-pub walk_together-requires-clause-shapes : goal.walk_together-requires-clause-shapes
-unfolding first_walk
-walk_together-requires-clause-shapes c =
-    let first = rw c.items-groups.ensures.items at c.in_ok-walk_names.ensures.fault in
-    let second = rw c.items-groups.ensures.items at c.in_ok-values.ensures.fault in
-    let are = rw c.items-groups.ensures.items at c.in_ok-values.ensures.values in
-    shapes-kept (length c.in_ok-values.values.fields) c.in_ok-values.values.shapes (ranges-read c.args.tree.now c.in_ok-values.values are c.items-groups.ensures.limits first second).shapes
+    subst (λ (p : Parameters). p.max_blocks ≤ most_blocks) (sym are) (walked-blocks c.args.tree.now first second).1
 
 pub returns-in_err-walk_together-clause-fault : goal.returns-in_err-walk_together-clause-fault
 unfolding first_walk
@@ -60,17 +54,17 @@ returns-in_err-walk_together-clause-fault c =
     let first = rw c.items-groups.ensures.items at c.in_ok-walk_names.ensures.fault in
     let second = rw c.items-groups.ensures.items at c.in_ok-values.ensures.fault in
     let are = rw c.items-groups.ensures.items at c.in_ok-values.ensures.values in
-    let found = sym (ap first_fault (third-read c.args.tree.now c.in_ok-values.values are)) ∙ c.in_err-walk_together.ensures.fault in
+    let found = sym (ap (λ (p : Parameters). first_fault (third_walk p)) are) ∙ c.in_err-walk_together.ensures.fault in
     refused-err c.args.tree.now c.from_residual-in_err-walk_together.result e c.from_residual-in_err-walk_together.ensures.1 (walked-third c.args.tree.now e first second found)
 
-pub params-requires : goal.params-requires
+pub of-requires : goal.of-requires
 unfolding first_walk
-params-requires c =
+of-requires c =
     let first = rw c.items-groups.ensures.items at c.in_ok-walk_names.ensures.fault in
     let second = rw c.items-groups.ensures.items at c.in_ok-values.ensures.fault in
     let are = rw c.items-groups.ensures.items at c.in_ok-values.ensures.values in
-    let none = sym (ap first_fault (third-read c.args.tree.now c.in_ok-values.values are)) ∙ c.in_ok-walk_together.ensures.fault in
-    record { limits = subst IsParameters (sym (all-read c.args.tree.now c.in_ok-values.values are c.in_ok-text.text.items c.in_ok-text.ensures.text)) (walked-limits c.args.tree.now first second none c.items-groups.ensures.limits) }
+    let none = sym (ap (λ (p : Parameters). first_fault (third_walk p)) are) ∙ c.in_ok-walk_together.ensures.fault in
+    record { limits = subst IsParameters (sym are) (walked-limits c.args.tree.now first second none c.items-groups.ensures.limits) }
 
 pub returns-clause-params : goal.returns-clause-params
 unfolding first_walk
@@ -78,6 +72,5 @@ returns-clause-params c =
     let first = rw c.items-groups.ensures.items at c.in_ok-walk_names.ensures.fault in
     let second = rw c.items-groups.ensures.items at c.in_ok-values.ensures.fault in
     let are = rw c.items-groups.ensures.items at c.in_ok-values.ensures.values in
-    let none = sym (ap first_fault (third-read c.args.tree.now c.in_ok-values.values are)) ∙ c.in_ok-walk_together.ensures.fault in
-    walked-accepted c.args.tree.now first second none
-    ∙ ap Ok (sym (c.params.ensures.params ∙ all-read c.args.tree.now c.in_ok-values.values are c.in_ok-text.text.items c.in_ok-text.ensures.text))
+    let none = sym (ap (λ (p : Parameters). first_fault (third_walk p)) are) ∙ c.in_ok-walk_together.ensures.fault in
+    walked-accepted c.args.tree.now first second none ∙ ap Ok (sym (c.of.ensures.params ∙ are))

@@ -1,3 +1,4 @@
+-- What holds at each turn of the loop.
 use Rattle.std.proofs.Common.{◌≡◌, drop}
 use Rattle.params_check.specs.Values.{value_of}
 use Rattle.params_check.proofs.lookup.value_of.Given as goal

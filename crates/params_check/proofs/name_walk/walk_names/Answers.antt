@@ -1,5 +1,6 @@
-use Rattle.std.proofs.Common.{◌≡◌, [], sym, ap, ◌∙◌, arith, rules, take}
-use Rattle.params_check.specs.Firsts.{first_fault}
+-- What is left of the proof of this function.
+use Rattle.std.proofs.Common.{[], ◌∙◌, arith, rules}
+use Rattle.params_check.specs.Lemmas.Firsts.{first_fault}
 use Rattle.params_check.specs.Walks.{group_faults, in_turn}
 use Rattle.params_check.proofs.InTurn.{in_turn-found}
 use Rattle.params_check.proofs.name_walk.walk_names.Goals as goal

@@ -1,5 +1,6 @@
+-- What holds at each turn of the loop.
 use Rattle.std.proofs.Common.{◌≡◌, [], take, drop}
-use Rattle.params_check.specs.Firsts.{first_fault}
+use Rattle.params_check.specs.Lemmas.Firsts.{first_fault}
 use Rattle.params_check.specs.Walks.{in_turn, group_faults}
 use Rattle.params_check.proofs.name_walk.walk_names.Given as goal
 

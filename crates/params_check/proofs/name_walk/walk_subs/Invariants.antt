@@ -1,6 +1,7 @@
+-- What holds at each turn of the loop.
 use Rattle.std.proofs.Common.{◌≡◌, [], take, drop}
-use Rattle.params_check.specs.Firsts.{first_fault}
-use Rattle.params_check.specs.Groups.{keys_of}
+use Rattle.params_check.specs.Lemmas.Firsts.{first_fault}
+use Rattle.params_check.specs.Lemmas.Groups.{keys_of}
 use Rattle.params_check.specs.Walks.{in_turn, sub_faults}
 use Rattle.params_check.proofs.name_walk.walk_subs.Given as goal
 

@@ -1,3 +1,4 @@
+-- What is left of the proof of this function.
 use Rattle.std.proofs.Common.{refl}
 use Rattle.params_check.specs.Examples.{drop_text}
 use Rattle.params_check.specs.Parameters.{values_of}

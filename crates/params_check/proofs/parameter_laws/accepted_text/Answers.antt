@@ -1,3 +1,4 @@
+-- What is left of the proof of this function.
 use Rattle.params_syntax.proofs.CanonicalTokens.{canonical_text-spells}
 use Rattle.params_check.proofs.NoFaults.{accepted-text, accepted-again}
 use Rattle.params_check.proofs.parameter_laws.accepted_text.Goals as goal

@@ -1,6 +1,0 @@
-use Rattle.std.proofs.Common.{◌≡◌, take, map}
-use Rattle.params_check.specs.Values.{word_of}
-use Rattle.params_check.proofs.field_group.names_of.Given as goal
-
-abbrev pub invariant-loop-atom : goal.invariant-loop-atom
-invariant-loop-atom l = l.names.items ≡ map word_of (take l.atom-index l.atoms)

@@ -1,7 +1,0 @@
-use Rattle.std.proofs.Common.{◌≡◌, drop, map}
-use Rattle.params_check.specs.Keys.{is_among}
-use Rattle.params_check.specs.Values.{word_of}
-use Rattle.params_check.proofs.field_group.stands_among.Given as goal
-
-abbrev pub invariant-loop-atom : goal.invariant-loop-atom
-invariant-loop-atom l = is_among (map word_of (drop l.atom-index l.atoms)) l.word ≡ is_among (map word_of l.atoms) l.word

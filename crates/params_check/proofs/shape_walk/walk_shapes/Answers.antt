@@ -1,0 +1,14 @@
+-- What is left of the proof of this function.
+use Rattle.std.proofs.Common.{ap, length, arith}
+use Rattle.std.proofs.lemmas.List.{length-map}
+use Rattle.params_check.specs.TreeValues.{shape_of}
+use Rattle.params_check.specs.Values.{subs_among}
+use Rattle.params_check.proofs.WalkedGroups.{subs_among-length}
+use Rattle.params_check.proofs.shape_walk.walk_shapes.Goals as goal
+
+pub of-requires : goal.of-requires
+of-requires c =
+    let items = c.args.items.now in
+    record {
+      few = omega (arith, ap length c.in_ok-found.ensures.value, length-map (subs_among items) (shape_of c.args.names.now), subs_among-length items, c.requires.few);
+    }
