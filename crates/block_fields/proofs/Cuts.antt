@@ -1,5 +1,6 @@
 -- Lists that are cut into pieces of given sizes: what the pieces hold, and writing into one of them.
-use Rattle.std.proofs.Common.{◌≡◌, ℕ, zero, suc, ◌+◌, ◌<◌, ◌≤◌, refl, sym, ap, ◌∙◌, arith, List, [], ◌∷◌, Some, slice_get, get_or, length, set, take, drop, sum, length-drop, length-take-le}
+use Rattle.std.proofs.Common.{◌≡◌, ℕ, zero, suc, ◌+◌, ◌<◌, ◌≤◌, refl, sym, ap, ◌∙◌, arith, List, [], ◌∷◌, ◌++◌, Some, slice_get, get_or, length, set, take, drop, sum, length-drop, length-take-le, take-append-drop}
+use Rattle.std.specs.List.{flat_map}
 use Rattle.std.proofs.lemmas.List.{take-set-le, drop-set-lt, drop-set-add, drop-drop}
 use Rattle.std.proofs.lemmas.List.Sums.{sum_by-cons}
 use Rattle.std.proofs.lemmas.Option.{none-some, same_Some}
@@ -43,6 +44,14 @@ length-piece (s ∷ sizes) q zero p long e =
 length-piece (s ∷ sizes) q (suc d) p long e =
     let k : sum (s ∷ sizes) ≡ s + sum sizes = sum_by-cons (λ x. x) s sizes in
     length-piece sizes (drop s q) d p (omega (arith, length-drop s q)) e
+
+-- the pieces together
+pub flat_map-cut : (sizes q : List ℕ) → length q ≡ sum sizes → flat_map (λ p. p) (cut sizes q) ≡ q
+flat_map-cut [] [] l = refl
+flat_map-cut [] (x ∷ q) l = absurd (omega arith)
+flat_map-cut (s ∷ sizes) q l =
+    let k : sum (s ∷ sizes) ≡ s + sum sizes = sum_by-cons (λ x. x) s sizes in
+    ap (λ r. take s q ++ r) (flat_map-cut sizes (drop s q) (omega (arith, length-drop s q))) ∙ take-append-drop s q
 
 -- a write into a piece
 pub cut-set : (sizes q : List ℕ) (d j v : ℕ) → d < length sizes → j < get_or sizes d 0 → cut sizes (set q (start sizes d + j) v) ≡ set (cut sizes q) d (set (get_or (cut sizes q) d []) j v)

@@ -1,15 +1,16 @@
 -- Blocks as they lie in memory are blocks, and stay so where a list of the same length takes the place of another.
-use Rattle.std.proofs.Common.{◌≡◌, ℕ, ◌+◌, ◌*◌, ◌<◌, ◌≤◌, sym, ap, ◌∙◌, arith, List, [], Some, slice_get, get_or, set, length, map, take, drop}
+use Rattle.std.proofs.Common.{◌≡◌, ℕ, ◌+◌, ◌*◌, ◌<◌, ◌≤◌, sym, ap, ◌∙◌, arith, List, [], Some, slice_get, get_or, set, length, map, take, drop, length-drop, length-take-le}
+use Rattle.std.specs.List.{flat_map}
 use Rattle.std.proofs.lemmas.List.{length-map, length-set, map-set, get_or-take, get_or-drop}
 use Rattle.std.proofs.lemmas.Option.{slice_get_within, get_or_from_slice_get}
 use Rattle.block_index.specs.Places.{Cube}
 use Rattle.block_fields.specs.Blocks.{IsBlock, ghosts_of, shell_of, with_ghosts}
 use Rattle.block_fields.specs.Layout.{IsLaidOut, cut, laid_out}
 use Rattle.block_fields.specs.Shells.{ghost_count, ghost_size, ghost_sizes, ghost_start}
-use Rattle.block_fields.proofs.Cuts.{length-cut, length-piece, get_or-cut, cut-set}
+use Rattle.block_fields.proofs.Cuts.{length-cut, length-piece, get_or-cut, flat_map-cut, cut-set}
 use Rattle.block_fields.proofs.Fields.{HaveLength-set}
 use Rattle.block_fields.proofs.FilledStates.{map-at, at-map}
-use Rattle.block_fields.proofs.ShellSizes.{length-ghost_sizes, get_or-ghost_sizes}
+use Rattle.block_fields.proofs.ShellSizes.{length-ghost_sizes, get_or-ghost_sizes, start-within_count}
 
 pub IsLaidOut-IsBlock : (place : Cube) (n g : ℕ) (amounts before shells : List (List ℕ)) → IsLaidOut n g amounts before shells → IsBlock (laid_out place n g amounts before shells)
 IsLaidOut-IsBlock place n g amounts before shells w = record {
@@ -124,3 +125,20 @@ module _ (place : Cube) (n g : ℕ) (amounts before shells : List (List ℕ)) (f
       (map-set (cut (ghost_sizes n g)) shells f (set q (ghost_start n g d + j) v)
       ∙ ap (set old f) (ghost-set n g d j v q h k)
       ∙ ap (λ s. set old f (set s d (set (get_or s d []) j v))) (sym shell-is))
+
+  -- all ghosts of the field, and those of a direction
+  pub shell-flat : length q ≡ ghost_count n g → flat_map (λ p. p) (shell_of (laid_out place n g amounts before shells) f) ≡ q
+  shell-flat long = ap (flat_map (λ p. p)) shell-is ∙ flat_map-cut (ghost_sizes n g) q long
+
+  pub ghosts-stretch : (d : ℕ) → d < 27 → ghosts_of (laid_out place n g amounts before shells) f d ≡ take (ghost_size n g d) (drop (ghost_start n g d) q)
+  ghosts-stretch d h =
+      let l = length-ghost_sizes n g in
+      ap (λ s. get_or s d []) shell-is
+      ∙ get_or-cut (ghost_sizes n g) q d (omega arith)
+      ∙ ap (λ s. take s (drop (ghost_start n g d) q)) (get_or-ghost_sizes n g d h)
+
+  pub length-ghosts : (d : ℕ) → d < 27 → length q ≡ ghost_count n g → length (ghosts_of (laid_out place n g amounts before shells) f d) ≡ ghost_size n g d
+  length-ghosts d h long =
+      let w = start-within_count n g d h in
+      ap length (ghosts-stretch d h)
+      ∙ length-take-le (ghost_size n g d) (drop (ghost_start n g d) q) (let l = length-drop (ghost_start n g d) q in omega arith)

@@ -16,3 +16,4 @@ pub mod Fields
 pub mod Layouts
 pub mod Seen
 pub mod Zeros
+pub mod Lendings

@@ -7,3 +7,4 @@ pub mod Shells
 pub mod Blocks
 pub mod Layout
 pub mod BlockStates
+pub mod Lending

@@ -11,6 +11,7 @@ ghost use Rattle.block_fields.specs.Blocks.{
 
 mod ghosts;
 mod made;
+mod slices;
 
 use block_index::Place;
 use std::marker::Model;

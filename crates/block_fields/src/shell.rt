@@ -128,6 +128,44 @@ pub(crate) fn spot_at(n: u16, depth: u8, x: i16, y: i16, z: i16) -> Spot
     }
 }
 
+/// Where the ghosts of a direction lie among those of a field.
+#[derive(Clone, Copy)]
+pub(crate) struct Stretch {
+    pub(crate) start: usize,
+    pub(crate) end: usize,
+}
+
+/// The stretch of a direction.
+pub(crate) fn stretch_of(n: u16, depth: u8, direction: u8) -> Stretch
+    requires most { n ≤ 16 }
+    requires deepest { depth ≤ 2 }
+    requires direction { direction < 27 }
+    ensures start { result.start ≡ ghost_start n depth direction }
+    ensures end { result.end ≡ ghost_start n depth direction + ghost_size n depth direction }
+    ensures within { result.end ≤ ghost_count n depth }
+    ensures most { result.end ≤ 8000 }
+{
+    let d = direction as usize;
+    let start = ghost_start(n, depth, d % 3, d / 3 % 3, d / 9);
+    Stretch {
+        start,
+        end: start + ghost_size(n, depth, d),
+    }
+}
+
+/// How many ghosts a direction has.
+fn ghost_size(n: u16, depth: u8, d: usize) -> usize
+    requires direction { d < 27 }
+    requires most { n ≤ 16 }
+    requires deepest { depth ≤ 2 }
+    ensures size { result ≡ ghost_size n depth d }
+{
+    if d == 13 {
+        return 0;
+    }
+    side_length(n, depth, d % 3) * side_length(n, depth, d / 3 % 3) * side_length(n, depth, d / 9)
+}
+
 /// How many ghosts a field has.
 pub(crate) fn ghost_count(n: u16, depth: u8) -> usize
     requires most { n ≤ 16 }
