@@ -20,7 +20,7 @@ use Rattle.block_fields.proofs.FilledStates.{at-map}
 use Rattle.block_fields.proofs.SampleCases.{sample-here, sample-coarser, sample-finer}
 use Rattle.block_fields.proofs.Totals.{amount_in-at}
 
-map-same : {A B : Type 0} (f g : A → B) (xs : List A) → ((i : ℕ) (x : A) → slice_get xs i ≡ Some x → f x ≡ g x) → map f xs ≡ map g xs
+pub map-same : {A B : Type 0} (f g : A → B) (xs : List A) → ((i : ℕ) (x : A) → slice_get xs i ≡ Some x → f x ≡ g x) → map f xs ≡ map g xs
 map-same f g [] h = refl
 map-same f g (x ∷ xs) h = ap (λ y. y ∷ map f xs) (h zero x refl) ∙ ap (λ ys. g x ∷ ys) (map-same f g xs (λ i y e. h (suc i) y e))
 

@@ -1,7 +1,7 @@
 -- Lists that are cut into pieces of given sizes: what the pieces hold, and writing into one of them.
-use Rattle.std.proofs.Common.{◌≡◌, ℕ, zero, suc, ◌+◌, ◌<◌, ◌≤◌, refl, sym, ap, ◌∙◌, arith, List, [], ◌∷◌, ◌++◌, Some, slice_get, get_or, length, set, take, drop, sum, length-drop, length-take-le, take-append-drop}
+use Rattle.std.proofs.Common.{◌≡◌, ℕ, zero, suc, ◌+◌, ◌<◌, ◌≤◌, refl, sym, ap, ◌∙◌, arith, List, [], ◌∷◌, ◌++◌, Some, slice_get, get_or, length, set, take, drop, sum, length-append, length-drop, length-take-le, take-append-drop, take-add, append_assoc}
 use Rattle.std.specs.List.{flat_map}
-use Rattle.std.proofs.lemmas.List.{take-set-le, drop-set-lt, drop-set-add, drop-drop}
+use Rattle.std.proofs.lemmas.List.{take-set-le, drop-set-lt, drop-set-add, drop-drop, take_at, drop_at}
 use Rattle.std.proofs.lemmas.List.Sums.{sum_by-cons}
 use Rattle.std.proofs.lemmas.Option.{none-some, same_Some}
 use Rattle.std.proofs.Math.Seq.{take-set-lt}
@@ -65,3 +65,45 @@ cut-set (s ∷ sizes) q (suc d) j v h k =
     ∙ ap (λ p. p ∷ cut sizes (drop s (set q (s + (start sizes d + j)) v))) (take-set-le s q (s + (start sizes d + j)) v (omega arith))
     ∙ ap (λ r. take s q ∷ cut sizes r) (drop-set-add s q (start sizes d + j) v)
     ∙ ap (λ r. take s q ∷ r) (cut-set sizes (drop s q) d j v (omega arith) k)
+
+-- lists of these sizes are the pieces of what they are together
+pub cut-flat_map : (sizes : List ℕ) (ps : List (List ℕ)) → length ps ≡ length sizes → ((d : ℕ) (p : List ℕ) → slice_get ps d ≡ Some p → length p ≡ get_or sizes d 0) → cut sizes (flat_map (λ p. p) ps) ≡ ps
+cut-flat_map [] [] l h = refl
+cut-flat_map [] (p ∷ ps) l h = absurd (omega arith)
+cut-flat_map (s ∷ sizes) [] l h = absurd (omega arith)
+cut-flat_map (s ∷ sizes) (p ∷ ps) l h =
+    let rest = flat_map (λ p. p) ps in
+    let size : length p ≡ s = h zero p refl in
+    ap (λ q. q ∷ cut sizes (drop s (p ++ rest))) (take_at p rest s size)
+    ∙ ap (λ r. p ∷ cut sizes r) (drop_at p rest s size)
+    ∙ ap (λ r. p ∷ r) (cut-flat_map sizes ps (omega arith) (λ d q e. h (suc d) q e))
+
+pub length-flat_map : (sizes : List ℕ) (ps : List (List ℕ)) → length ps ≡ length sizes → ((d : ℕ) (p : List ℕ) → slice_get ps d ≡ Some p → length p ≡ get_or sizes d 0) → length (flat_map (λ p. p) ps) ≡ sum sizes
+length-flat_map [] [] l h = refl
+length-flat_map [] (p ∷ ps) l h = absurd (omega arith)
+length-flat_map (s ∷ sizes) [] l h = absurd (omega arith)
+length-flat_map (s ∷ sizes) (p ∷ ps) l h =
+    let k : sum (s ∷ sizes) ≡ s + sum sizes = sum_by-cons (λ x. x) s sizes in
+    omega (arith, length-append p (flat_map (λ p. p) ps), h zero p refl, length-flat_map sizes ps (omega arith) (λ d q e. h (suc d) q e))
+
+-- a piece that is written over whole
+pub cut-splice : (sizes q w : List ℕ) (d : ℕ) → d < length sizes → sum sizes ≤ length q → length w ≡ get_or sizes d 0 → cut sizes (take (start sizes d) q ++ (w ++ drop (length w) (drop (start sizes d) q))) ≡ set (cut sizes q) d w
+cut-splice [] q w d h long l = absurd (omega arith)
+cut-splice (s ∷ sizes) q w zero h long l =
+    let rest = drop (length w) q in
+    ap (λ p. p ∷ cut sizes (drop s (w ++ rest))) (take_at w rest s l)
+    ∙ ap (λ r. w ∷ cut sizes r) (drop_at w rest s l ∙ ap (λ k. drop k q) l)
+cut-splice (s ∷ sizes) q w (suc d) h long l =
+    let e : sum (s ∷ sizes) ≡ s + sum sizes = sum_by-cons (λ x. x) s sizes in
+    let k = start sizes d in
+    let tail = drop s q in
+    let rest = take k tail ++ (w ++ drop (length w) (drop k tail)) in
+    let first : length (take s q) ≡ s = length-take-le s q (omega arith) in
+    let split : take (s + k) q ++ (w ++ drop (length w) (drop (s + k) q)) ≡ take s q ++ rest =
+    (λ i. take-add s k q i ++ (w ++ drop (length w) (sym (drop-drop k s q) i)))
+    ∙ append_assoc (take s q) (take k tail) (w ++ drop (length w) (drop k tail)) in
+    ap (λ n. cut (s ∷ sizes) (take n q ++ (w ++ drop (length w) (drop n q)))) (start-suc s d sizes)
+    ∙ ap (cut (s ∷ sizes)) split
+    ∙ ap (λ p. p ∷ cut sizes (drop s (take s q ++ rest))) (take_at (take s q) rest s first)
+    ∙ ap (λ r. take s q ∷ cut sizes r) (drop_at (take s q) rest s first)
+    ∙ ap (λ r. take s q ∷ r) (cut-splice sizes tail w d (omega arith) (omega (arith, length-drop s q)) l)

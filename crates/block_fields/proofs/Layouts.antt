@@ -106,6 +106,18 @@ ghost-set n g d j v q h k =
     let l = length-ghost_sizes n g in
     cut-set (ghost_sizes n g) q d j v (omega arith) (let m : j < get_or (ghost_sizes n g) d 0 = omega arith in m)
 
+-- a direction's ghosts in the list of all
+pub piece-stretch : (n g d : ℕ) (q : List ℕ) → d < 27 → get_or (cut (ghost_sizes n g) q) d [] ≡ take (ghost_size n g d) (drop (ghost_start n g d) q)
+piece-stretch n g d q h =
+    let l = length-ghost_sizes n g in
+    get_or-cut (ghost_sizes n g) q d (omega arith)
+    ∙ ap (λ s. take s (drop (ghost_start n g d) q)) (get_or-ghost_sizes n g d h)
+
+pub length-stretch : (n g d : ℕ) (q : List ℕ) → d < 27 → length q ≡ ghost_count n g → length (take (ghost_size n g d) (drop (ghost_start n g d) q)) ≡ ghost_size n g d
+length-stretch n g d q h long =
+    let w = start-within_count n g d h in
+    length-take-le (ghost_size n g d) (drop (ghost_start n g d) q) (let l = length-drop (ghost_start n g d) q in omega arith)
+
 -- ---- the ghosts of a field
 
 module _ (place : Cube) (n g : ℕ) (amounts before shells : List (List ℕ)) (f : ℕ) (q : List ℕ) (at : slice_get shells f ≡ Some q) where
@@ -131,14 +143,7 @@ module _ (place : Cube) (n g : ℕ) (amounts before shells : List (List ℕ)) (f
   shell-flat long = ap (flat_map (λ p. p)) shell-is ∙ flat_map-cut (ghost_sizes n g) q long
 
   pub ghosts-stretch : (d : ℕ) → d < 27 → ghosts_of (laid_out place n g amounts before shells) f d ≡ take (ghost_size n g d) (drop (ghost_start n g d) q)
-  ghosts-stretch d h =
-      let l = length-ghost_sizes n g in
-      ap (λ s. get_or s d []) shell-is
-      ∙ get_or-cut (ghost_sizes n g) q d (omega arith)
-      ∙ ap (λ s. take s (drop (ghost_start n g d) q)) (get_or-ghost_sizes n g d h)
+  ghosts-stretch d h = ap (λ s. get_or s d []) shell-is ∙ piece-stretch n g d q h
 
   pub length-ghosts : (d : ℕ) → d < 27 → length q ≡ ghost_count n g → length (ghosts_of (laid_out place n g amounts before shells) f d) ≡ ghost_size n g d
-  length-ghosts d h long =
-      let w = start-within_count n g d h in
-      ap length (ghosts-stretch d h)
-      ∙ length-take-le (ghost_size n g d) (drop (ghost_start n g d) q) (let l = length-drop (ghost_start n g d) q in omega arith)
+  length-ghosts d h long = ap length (ghosts-stretch d h) ∙ length-stretch n g d q h long

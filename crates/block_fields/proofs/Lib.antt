@@ -9,6 +9,7 @@ pub mod SampleCases
 pub mod Adapting
 pub mod SampleBounds
 pub mod BlockSamples
+pub mod MeetingLeaves
 pub mod RootSums
 pub mod Cuts
 pub mod ShellSizes
@@ -17,3 +18,6 @@ pub mod Layouts
 pub mod Seen
 pub mod Zeros
 pub mod Lendings
+pub mod StatesOfBlocks
+pub mod Writes
+pub mod GhostWrites

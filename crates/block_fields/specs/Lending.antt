@@ -2,7 +2,7 @@
 use Rattle.std.specs.Prelude.{ℕ, List, ◌++◌, length, take, drop, slice_set}
 use Rattle.std.specs.List.{flat_map}
 use Rattle.std.specs.Borrow.{Lends, MutBor, Fml, Array, u64}
-use Rattle.block_fields.specs.Blocks.{BlockState, amounts_of, shell_of}
+use Rattle.block_fields.specs.Blocks.{BlockState, amounts_of, before_of, shell_of}
 use Rattle.block_fields.specs.Layout.{cut}
 use Rattle.block_fields.specs.Shells.{ghost_sizes, ghost_start}
 use Rattle.block_fields.specs.contracts.block.Block.{the_row}
@@ -33,3 +33,10 @@ LendsField b f r = Lends the_row (Array u64 0) b r (with_field b.now f)
 
 abbrev pub LendsGhosts : MutBor BlockState → ℕ → ℕ → MutBor (List ℕ) → Fml
 LendsGhosts b f d r = Lends the_row (Array u64 0) b r (with_direction b.now f d)
+
+-- the block with the second copy of a field's amounts written over
+abbrev pub with_before : BlockState → ℕ → List ℕ → BlockState
+with_before b f w = record b { before = slice_set b.before f (refilled (before_of b f) w) }
+
+abbrev pub LendsBefore : MutBor BlockState → ℕ → MutBor (List ℕ) → Fml
+LendsBefore b f r = Lends the_row (Array u64 0) b r (with_before b.now f)

@@ -9,6 +9,7 @@ ghost use Rattle.block_fields.specs.Blocks.{
   zero_block,
 };
 
+pub(crate) mod copies;
 mod ghosts;
 mod made;
 mod slices;

@@ -5,10 +5,15 @@
 #![tactic(auto)]
 
 mod block;
+mod block_laws;
 mod laws;
 mod shell;
 
 pub use block::Block;
+pub use block::copies::{Copies, ghosts_toward};
+pub use block_laws::{
+    blocks_of_a_mesh, second_copies_of_a_mesh, writing_amounts, writing_ghosts, written_lists,
+};
 pub use laws::{
     adapting_keeps_totals, filled_states, first_state, samples, samples_of_blocks, totals_bound,
 };

@@ -10,7 +10,7 @@ use crate::shell::{Stretch, stretch_of};
 use std_alloc::vec::run_mut;
 
 /// A stretch of a list.
-fn part_of(list: &[u64], start: usize, end: usize) -> &[u64]
+pub(crate) fn part_of(list: &[u64], start: usize, end: usize) -> &[u64]
     requires order { start ≤ end }
     requires within { end ≤ length list.now }
     ensures part { result.now ≡ slice_range list.now start end }

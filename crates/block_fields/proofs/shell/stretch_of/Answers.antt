@@ -1,4 +1,4 @@
-use Rattle.std.proofs.Common.{◌≡◌, ℕ, ◌+◌, ◌*◌, ◌/◌, ◌%◌, ◌<◌, ◌≤◌, ap, ◌∙◌, arith}
+use Rattle.std.proofs.Common.{◌≡◌, ℕ, ◌+◌, ◌/◌, ◌%◌, ◌<◌, ◌≤◌, ap, ◌∙◌, arith}
 use Rattle.block_fields.specs.Shells.{direction, ghost_count, ghost_size, ghost_start}
 use Rattle.block_fields.proofs.ShellSizes.{count-cube, cube-most, start-within_count}
 use Rattle.block_fields.proofs.shell.stretch_of.Goals as goal

@@ -1,4 +1,4 @@
-use Rattle.std.proofs.Common.{◌≡◌, ℕ, ◌*◌, ◌<◌, List, length, map, sym, ap, ◌∙◌, subst, arith, Vec, Global}
+use Rattle.std.proofs.Common.{ℕ, ◌*◌, ◌<◌, List, length, map, sym, ap, ◌∙◌, subst, arith, Vec, Global}
 use Rattle.block_fields.specs.Blocks.{BlockState, IsBlock}
 use Rattle.block_fields.proofs.Fields.{field-at}
 use Rattle.block_fields.proofs.Layouts.{IsLaidOut-IsBlock}

@@ -1,4 +1,4 @@
-use Rattle.std.proofs.Common.{◌≡◌, ℕ, ◌*◌, ◌<◌, List, [], length, map, set, get_or, sym, ap, ◌∙◌, subst, arith, Vec, Global}
+use Rattle.std.proofs.Common.{ℕ, ◌<◌, List, length, map, set, sym, ap, ◌∙◌, subst, arith, Vec, Global}
 use Rattle.block_fields.specs.Blocks.{BlockState, exchanged}
 use Rattle.block_fields.specs.Layout.{IsLaidOut, laid_out}
 use Rattle.block_fields.proofs.Fields.{field-at, field-is, field-set}

@@ -1,4 +1,4 @@
-use Rattle.std.proofs.Common.{◌≡◌, ℕ, ◌*◌, ◌<◌, List, [], length, map, set, get_or, refl, sym, ap, ◌∙◌, subst, arith, Vec, Global}
+use Rattle.std.proofs.Common.{◌≡◌, ℕ, ◌*◌, ◌<◌, List, [], length, map, set, get_or, refl, sym, ap, ◌∙◌, subst, Vec, Global}
 use Rattle.block_fields.specs.Blocks.{BlockState}
 use Rattle.block_fields.specs.Layout.{IsLaidOut, laid_out}
 use Rattle.block_fields.specs.Lending.{refilled, with_field}

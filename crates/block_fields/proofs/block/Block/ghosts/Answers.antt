@@ -1,7 +1,6 @@
-use Rattle.std.proofs.Common.{◌≡◌, ℕ, ◌+◌, ◌-◌, ◌*◌, ◌<◌, ◌≤◌, List, length, map, take, drop, sym, ap, ◌∙◌, subst, arith, Vec, Global}
+use Rattle.std.proofs.Common.{◌≡◌, ℕ, ◌-◌, ◌<◌, List, length, map, take, drop, sym, ap, ◌∙◌, subst, arith, Vec, Global}
 use Rattle.block_fields.specs.Blocks.{BlockState, IsBlock, ghosts_of}
-use Rattle.block_fields.specs.Layout.{laid_out}
-use Rattle.block_fields.specs.Shells.{ghost_count, ghost_size, ghost_start}
+use Rattle.block_fields.specs.Shells.{ghost_count, ghost_size}
 use Rattle.block_fields.proofs.Fields.{field-at}
 use Rattle.block_fields.proofs.Layouts.{IsLaidOut-IsBlock, ghosts-stretch, length-ghosts}
 use Rattle.block_fields.proofs.block.Block.ghosts.Goals as goal

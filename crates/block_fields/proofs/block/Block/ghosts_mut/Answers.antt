@@ -1,10 +1,9 @@
-use Rattle.std.proofs.Common.{◌≡◌, ℕ, ◌+◌, ◌-◌, ◌*◌, ◌<◌, ◌≤◌, List, ◌++◌, length, map, set, take, drop, refl, sym, ap, ◌∙◌, subst, arith, Vec, Global}
-use Rattle.std.specs.List.{flat_map}
+use Rattle.std.proofs.Common.{◌≡◌, ℕ, ◌-◌, ◌<◌, List, ◌++◌, length, map, set, take, drop, refl, sym, ap, ◌∙◌, subst, arith, Vec, Global}
 use Rattle.std.proofs.lemmas.List.{map-set}
-use Rattle.block_fields.specs.Blocks.{BlockState, ghosts_of, shell_of}
+use Rattle.block_fields.specs.Blocks.{BlockState, ghosts_of}
 use Rattle.block_fields.specs.Layout.{IsLaidOut, cut, laid_out}
 use Rattle.block_fields.specs.Lending.{refilled, with_direction}
-use Rattle.block_fields.specs.Shells.{ghost_count, ghost_size, ghost_sizes, ghost_start}
+use Rattle.block_fields.specs.Shells.{ghost_count, ghost_size, ghost_sizes}
 use Rattle.block_fields.proofs.Fields.{field-at}
 use Rattle.block_fields.proofs.Layouts.{IsLaidOut-shells, ghosts-stretch, length-ghosts, shell-flat}
 use Rattle.block_fields.proofs.Lendings.{fields-refilled, length-refilled}
