@@ -8,6 +8,8 @@ mod block;
 mod block_laws;
 mod laws;
 mod shell;
+#[cfg(test)]
+mod tests;
 
 pub use block::Block;
 pub use block::copies::{Copies, ghosts_toward};
