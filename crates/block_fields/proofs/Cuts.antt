@@ -14,7 +14,7 @@ start sizes d = sum (take d sizes)
 pub start-suc : (s d : ℕ) (sizes : List ℕ) → start (s ∷ sizes) (suc d) ≡ s + start sizes d
 start-suc s d sizes = sum_by-cons (λ x. x) s (take d sizes)
 
--- a piece ends within the whole
+-- a piece ends within all of them
 pub start-within : (sizes : List ℕ) (d : ℕ) → start sizes d + get_or sizes d 0 ≤ sum sizes
 start-within [] zero = omega arith
 start-within [] (suc d) = omega arith
@@ -86,7 +86,7 @@ length-flat_map (s ∷ sizes) (p ∷ ps) l h =
     let k : sum (s ∷ sizes) ≡ s + sum sizes = sum_by-cons (λ x. x) s sizes in
     omega (arith, length-append p (flat_map (λ p. p) ps), h zero p refl, length-flat_map sizes ps (omega arith) (λ d q e. h (suc d) q e))
 
--- a piece that is written over whole
+-- a piece in place of another of its length
 pub cut-splice : (sizes q w : List ℕ) (d : ℕ) → d < length sizes → sum sizes ≤ length q → length w ≡ get_or sizes d 0 → cut sizes (take (start sizes d) q ++ (w ++ drop (length w) (drop (start sizes d) q))) ≡ set (cut sizes q) d w
 cut-splice [] q w d h long l = absurd (omega arith)
 cut-splice (s ∷ sizes) q w zero h long l =

@@ -43,7 +43,7 @@ parts-same a b p q r u v w hp hu hq hv e =
     let row : r * b + q ≡ w * b + v = sym (div-mul-add (r * b + q) a p hp) ∙ ap (λ k. k / a) e ∙ div-mul-add (w * b + v) a u hu in
     (sym (mod-mul-add (r * b + q) a p hp) ∙ ap (λ k. k % a) e ∙ mod-mul-add (w * b + v) a u hu, sym (mod-mul-add r b q hq) ∙ ap (λ k. k % b) row ∙ mod-mul-add w b v hv, sym (div-mul-add r b q hq) ∙ ap (λ k. k / b) row ∙ div-mul-add w b v hv)
 
-directions-same : (x y z u v w : ℕ) → x < 3 → y < 3 → z < 3 → u < 3 → v < 3 → w < 3 → direction x y z ≡ direction u v w → (x ≡ u) × (y ≡ v) × (z ≡ w)
+pub directions-same : (x y z u v w : ℕ) → x < 3 → y < 3 → z < 3 → u < 3 → v < 3 → w < 3 → direction x y z ≡ direction u v w → (x ≡ u) × (y ≡ v) × (z ≡ w)
 directions-same x y z u v w hx hy hz hu hv hw e =
     let a = sides_apart x y z hx hy hz in
     let b = sides_apart u v w hu hv hw in

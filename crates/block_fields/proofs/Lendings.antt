@@ -2,14 +2,16 @@
 use Rattle.std.proofs.Common.{◌≡◌, ℕ, ◌*◌, ◌<◌, sym, ap, ◌∙◌, arith, List, [], ◌++◌, Some, slice_get, get_or, length, take, drop, set, map, sum, Vec, Global, length-append, length-drop, length-take-le}
 use Rattle.std.specs.List.{flat_map}
 use Rattle.std.specs.Vec.{with_items}
-use Rattle.std.proofs.lemmas.List.{take_at}
+use Rattle.std.proofs.lemmas.List.{map-set, take_at}
+use Rattle.block_index.specs.Places.{Cube}
 use Rattle.std.proofs.lemmas.Option.{slice_get-get_or, slice_get_within}
 use Rattle.block_fields.specs.Blocks.{BlockState, IsBlock, amounts_of, before_of, shell_of, with_ghosts}
-use Rattle.block_fields.specs.Layout.{cut}
+use Rattle.block_fields.specs.Layout.{cut, laid_out}
 use Rattle.block_fields.specs.Lending.{refilled, with_before, with_direction, with_field}
-use Rattle.block_fields.specs.Shells.{ghost_size, ghost_sizes, ghost_start}
+use Rattle.block_fields.specs.Shells.{ghost_count, ghost_size, ghost_sizes, ghost_start}
 use Rattle.block_fields.proofs.Cuts.{cut-flat_map, cut-splice, length-flat_map}
 use Rattle.block_fields.proofs.Fields.{field-set}
+use Rattle.block_fields.proofs.Layouts.{shell-flat}
 use Rattle.block_fields.proofs.ShellSizes.{get_or-ghost_sizes, length-ghost_sizes, start-within_count}
 
 pub length-refilled : (q w : List ℕ) → length (refilled q w) ≡ length q
@@ -26,6 +28,17 @@ with_items-refilled v w = ap (λ n. take n (w ++ drop (length w) v.items)) v.ok.
 -- the lists of all fields after one of them was written over
 pub fields-refilled : (fs : List (Vec ℕ Global)) (f : ℕ) (v : Vec ℕ Global) (w : List ℕ) → map (λ (v : Vec ℕ Global). v.items) (set fs f (with_items v w)) ≡ set (map (λ (v : Vec ℕ Global). v.items) fs) f (refilled v.items w)
 fields-refilled fs f v w = field-set (Vec ℕ Global) (λ v. v.items) fs f (with_items v w) (refilled v.items w) (with_items-refilled v w)
+
+-- the block after a field's ghosts were written over from a direction on
+pub direction-written : (place : Cube) (n g : ℕ) (amounts before shells : List (List ℕ)) (f : ℕ) (q : List ℕ) → slice_get shells f ≡ Some q → length q ≡ ghost_count n g → (d : ℕ) (w : List ℕ)
+    → laid_out place n g amounts before (set shells f (refilled q (take (ghost_start n g d) q ++ (w ++ drop (length w) (drop (ghost_start n g d) q)))))
+    ≡ with_direction (laid_out place n g amounts before shells) f d w
+direction-written place n g amounts before shells f q at long d w =
+    let pieces = cut (ghost_sizes n g) in
+    let over : List ℕ → List ℕ = λ all. refilled all (take (ghost_start n g d) all ++ (w ++ drop (length w) (drop (ghost_start n g d) all))) in
+    let flat = shell-flat place n g amounts before shells f q at long in
+    ap (λ l. record { place = place; edge = n; depth = g; amounts = amounts; before = before; ghosts = l })
+    (map-set pieces shells f (over q) ∙ ap (λ all. set (map pieces shells) f (pieces (over all))) (sym flat))
 
 -- ---- lists of the right length
 

@@ -21,3 +21,4 @@ pub mod Lendings
 pub mod StatesOfBlocks
 pub mod Writes
 pub mod GhostWrites
+pub mod SamplesAround

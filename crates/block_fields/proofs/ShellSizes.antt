@@ -16,7 +16,7 @@ by_sides P a b c (suc zero) h = b
 by_sides P a b c (suc (suc zero)) h = c
 by_sides P a b c (suc (suc (suc s))) h = absurd (omega arith)
 
--- the cells of the directions before one, the block's own among them: whole planes, then rows, then single boxes
+-- the cells of the directions before one, the block's own among them: planes, then rows, then single boxes
 abbrev pub cells_first : ℕ → ℕ → ℕ → ℕ → ℕ → ℕ
 cells_first n g x y z =
     cells_before n g z * (n + 2 * g) * (n + 2 * g) + side_length n g z * cells_before n g y * (n + 2 * g) + side_length n g z * side_length n g y * cells_before n g x

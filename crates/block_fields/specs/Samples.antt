@@ -18,7 +18,7 @@ sample s f c =
     cond (has_cell s.edge s.leaves c) (held s f c)
     (cond (has_coarser s.edge s.leaves c) (part (held s f (parent_of c)) (child_number c)) (sum_by (held s f) (children_of c)))
 
--- a coordinate moved into an axis of n cells: by whole lengths of the axis where it wraps, else to the nearest cell
+-- a coordinate moved into an axis of n cells: by full lengths of the axis where it wraps, else to the nearest cell
 abbrev pub moved : Bool → ℕ → ℤ → ℕ
 moved true n (pos x) = x % n
 moved true n (negsuc x) = n - 1 - x % n

@@ -10,17 +10,26 @@ ghost use Rattle.block_fields.specs.Blocks.{
   amount_at,
   amounts_of,
   before_of,
+  ghosts_of,
   seen_at,
   shell_of,
   with_amount,
   with_ghost,
   with_ghosts,
 };
-ghost use Rattle.block_fields.specs.BlockStates.{AreBlocksOf, IsBlockOf, state_before, state_of};
+ghost use Rattle.block_fields.specs.BlockStates.{
+  AreBlocksOf,
+  HoldsSamples,
+  IsBlockOf,
+  IsLeafOf,
+  sample_around,
+  state_before,
+  state_of,
+};
 ghost use Rattle.block_fields.specs.Cells.{block_of, cell_at, cell_number, cells_of};
 ghost use Rattle.block_fields.specs.Lending.{with_before, with_direction, with_field};
 ghost use Rattle.block_fields.specs.Shells.{IsAround, direction_of, ghost_size};
-ghost use Rattle.block_fields.specs.States.{IsState, filled, held, total};
+ghost use Rattle.block_fields.specs.States.{State, IsState, filled, held, total};
 
 /// The blocks of a balanced mesh, one a leaf in order and all of one size, are a state: its total is the sum over the
 /// blocks, and a cell holds what its block has. Blocks that hold what a function gives are the state filled by it.
@@ -75,7 +84,14 @@ pub fn writing_ghosts()
         seen_at b f (pos x) (pos y) (pos z) ≡ amount_at b f x y z }
 {}
 
-/// A list that was lent whole takes the place of the old one.
+/// How long the lists of a block are.
+pub fn lists_of_a_block()
+    ensures amounts { (b : BlockState) (f : ℕ) → IsBlock b → f < length b.amounts → length (amounts_of b f) ≡ b.edge * b.edge * b.edge }
+    ensures before { (b : BlockState) (f : ℕ) → IsBlock b → f < length b.amounts → length (before_of b f) ≡ b.edge * b.edge * b.edge }
+    ensures ghosts { (b : BlockState) (f d : ℕ) → IsBlock b → f < length b.amounts → d < 27 → length (ghosts_of b f d) ≡ ghost_size b.edge b.depth d }
+{}
+
+/// A list of the right length takes the place of the one that was lent.
 pub fn written_lists()
     ensures field { (b : BlockState) (f : ℕ) (w : List ℕ) → IsBlock b → f < length b.amounts → length w ≡ b.edge * b.edge * b.edge →
         with_field b f w ≡ record b { amounts = slice_set b.amounts f w } }
@@ -83,4 +99,13 @@ pub fn written_lists()
         with_before b f w ≡ record b { before = slice_set b.before f w } }
     ensures direction { (b : BlockState) (f d : ℕ) (w : List ℕ) → IsBlock b → f < length b.amounts → d < 27 →
         length w ≡ ghost_size b.edge b.depth d → with_direction b f d w ≡ with_ghosts b f d w }
+{}
+
+/// A block of a mesh is a leaf of the state. Where its ghosts hold the samples of its level, it sees these in its own
+/// cells and around them.
+pub fn samples_around_blocks()
+    ensures leaf { (grid : Grid) (leaves : List Cube) (n fields depth : ℕ) (blocks : List BlockState) (i : ℕ) (b : BlockState) →
+        AreBlocksOf leaves n fields depth blocks → slice_get blocks i ≡ Some b → IsLeafOf (state_of grid n fields blocks) i b }
+    ensures seen { (s : State) (i : ℕ) (b : BlockState) (f : ℕ) (x y z : ℤ) → IsState s → IsLeafOf s i b → HoldsSamples s b → f < s.fields →
+        IsAround b.edge b.depth x → IsAround b.edge b.depth y → IsAround b.edge b.depth z → seen_at b f x y z ≡ sample_around s b f x y z }
 {}

@@ -1,4 +1,4 @@
-//! Whole lists of a block, lent as slices.
+//! The lists of a block, lent as slices.
 ghost use Rattle.std.specs.Prelude.{◌≡◌, ℕ, ◌*◌, ◌<◌, ◌≤◌, length, slice_range};
 ghost use Rattle.std.specs.Borrow.{sem};
 ghost use Rattle.block_fields.specs.Blocks.{IsBlock, amounts_of, before_of, exchanged, ghosts_of};

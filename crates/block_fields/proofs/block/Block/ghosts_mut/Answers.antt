@@ -1,12 +1,11 @@
 use Rattle.std.proofs.Common.{◌≡◌, ℕ, ◌-◌, ◌<◌, List, ◌++◌, length, map, set, take, drop, refl, sym, ap, ◌∙◌, subst, arith, Vec, Global}
-use Rattle.std.proofs.lemmas.List.{map-set}
 use Rattle.block_fields.specs.Blocks.{BlockState, ghosts_of}
-use Rattle.block_fields.specs.Layout.{IsLaidOut, cut, laid_out}
+use Rattle.block_fields.specs.Layout.{IsLaidOut, laid_out}
 use Rattle.block_fields.specs.Lending.{refilled, with_direction}
-use Rattle.block_fields.specs.Shells.{ghost_count, ghost_size, ghost_sizes}
+use Rattle.block_fields.specs.Shells.{ghost_count, ghost_size}
 use Rattle.block_fields.proofs.Fields.{field-at}
-use Rattle.block_fields.proofs.Layouts.{IsLaidOut-shells, ghosts-stretch, length-ghosts, shell-flat}
-use Rattle.block_fields.proofs.Lendings.{fields-refilled, length-refilled}
+use Rattle.block_fields.proofs.Layouts.{IsLaidOut-shells, ghosts-stretch, length-ghosts}
+use Rattle.block_fields.proofs.Lendings.{direction-written, fields-refilled, length-refilled}
 use Rattle.block_fields.proofs.block.Block.ghosts_mut.Goals as goal
 
 pub run_mut-requires-clause-in_bounds : goal.run_mut-requires-clause-in_bounds
@@ -61,7 +60,6 @@ returns c =
     let d = c.args.direction in
     let state = laid_out b.place b.edge b.depth amounts before shells in
     let size : s.result.end - s.result.start ≡ ghost_size b.edge b.depth d = omega (arith, s.ensures.start, s.ensures.end) in
-    let flat = shell-flat b.place b.edge b.depth amounts before shells f v.items at long in
     let now : c.run_mut.result.now ≡ ghosts_of state f d =
     c.run_mut.ensures.value
     ∙ (λ i. take (size i) (drop (s.ensures.start i) v.items))
@@ -69,12 +67,10 @@ returns c =
       (
         refl,
         λ w.
-            let over : ℕ → List ℕ → List ℕ = λ start all. take start all ++ (w ++ drop (length w) (drop start all)) in
+            let over : ℕ → List ℕ = λ start. take start v.items ++ (w ++ drop (length w) (drop start v.items)) in
             ap (laid_out b.place b.edge b.depth amounts before)
-            (fields-refilled b.ghosts.items f v (over s.result.start v.items))
-            ∙ ap (λ l. record { place = b.place; edge = b.edge; depth = b.depth; amounts = amounts; before = before; ghosts = l })
-            (map-set (cut (ghost_sizes b.edge b.depth)) shells f (refilled v.items (over s.result.start v.items))
-            ∙ (λ i. set (map (cut (ghost_sizes b.edge b.depth)) shells) f (cut (ghost_sizes b.edge b.depth) (refilled (sym flat i) (over (s.ensures.start i) (sym flat i))))))
+            (fields-refilled b.ghosts.items f v (over s.result.start) ∙ ap (λ k. set shells f (refilled v.items (over k))) s.ensures.start)
+            ∙ direction-written b.place b.edge b.depth amounts before shells f v.items at long d w
             ∙ ap (λ b. with_direction b f d w) c.self.view_is,
       ),
       record {
