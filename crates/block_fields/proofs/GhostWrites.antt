@@ -5,7 +5,7 @@ use Rattle.std.proofs.lemmas.Bool.{cases_Bool, cases_eq, cond-true, cond-false}
 use Rattle.std.proofs.lemmas.Bool.Decides.{nat_tests}
 use Rattle.std.proofs.lemmas.List.{get_or-set_same, get_or-set_other}
 use Rattle.std.proofs.lemmas.Option.{slice_get-get_or}
-use Rattle.block_fields.specs.Blocks.{BlockState, IsBlock, ghosts_of, seen_at, shell_of, with_ghost}
+use Rattle.block_fields.specs.Blocks.{BlockState, IsBlock, ghosts_of, seen_at, shell_of, with_ghost, with_ghosts}
 use Rattle.block_fields.specs.Shells.{IsAround, direction, direction_of, ghost_size, number_around, position_of, side_length, side_of}
 use Rattle.block_fields.proofs.Seen.{seen-own, seen-around}
 use Rattle.block_fields.proofs.ShellSizes.{box-ghost_size, number-below, sides_apart}
@@ -129,3 +129,41 @@ module _ (b : BlockState) (k : IsBlock b) (f : ℕ) (x y z : ℤ) (q : ℕ) (hf 
           ap (λ (l : List ℕ). get_or l (number_around b.edge b.depth u v w) 0)
           (ap (λ (s : List (List ℕ)). get_or s (direction_of b.edge u v w) []) (get_or-set_same b.ghosts f (set (shell_of b f) d p) [] (let l = k.one_shell_each in omega arith))
           ∙ get_or-set_other (shell_of b f) d (direction_of b.edge u v w) p [] unlike)
+
+-- ---- a direction's ghosts in place of others
+
+module _ (b : BlockState) (f d : ℕ) (w : List ℕ) (k : IsBlock b) (hf : f < length b.amounts) (x y z : ℤ) where
+  written : shell_of (with_ghosts b f d w) f ≡ set (shell_of b f) d w
+  written = get_or-set_same b.ghosts f (set (shell_of b f) d w) [] (let e = k.one_shell_each in omega arith)
+
+  pub seen-written : direction_of b.edge x y z ≡ d → (d ≡ 13 → ⊥) → seen_at (with_ghosts b f d w) f x y z ≡ get_or w (number_around b.edge b.depth x y z) 0
+  seen-written here outside =
+      let e = direction_of b.edge x y z in
+      let at = slice_get-get_or b.ghosts f [] (let l = k.one_shell_each in omega arith) in
+      let many = k.all_directions f (shell_of b f) at in
+      let low = direction_of-below b.edge b.depth x y z in
+      seen-around (with_ghosts b f d w) f x y z (λ o. outside (sym here ∙ o))
+      ∙ ap (λ (l : List ℕ). get_or l (number_around b.edge b.depth x y z) 0)
+      (ap (λ (s : List (List ℕ)). get_or s e []) written
+      ∙ ap (λ n. get_or (set (shell_of b f) d w) n []) here
+      ∙ get_or-set_same (shell_of b f) d w [] (omega arith))
+
+  pub seen-elsewhere : (g : ℕ) → ((g ≡ f → ⊥) ⊎ (direction_of b.edge x y z ≡ d → ⊥)) → seen_at (with_ghosts b f d w) g x y z ≡ seen_at b g x y z
+  seen-elsewhere g other =
+      elim (cases_eq (direction_of b.edge x y z) 13) [
+        | inl own ↦ seen-own (with_ghosts b f d w) g x y z own ∙ sym (seen-own b g x y z own)
+        | inr around ↦
+            seen-around (with_ghosts b f d w) g x y z around
+            ∙ ap (λ (l : List ℕ). get_or l (number_around b.edge b.depth x y z) 0) (same (cases_eq g f) other)
+            ∙ sym (seen-around b g x y z around)
+      ]
+    where
+      same : ((g ≡ f) ⊎ (g ≡ f → ⊥)) → ((g ≡ f → ⊥) ⊎ (direction_of b.edge x y z ≡ d → ⊥)) → ghosts_of (with_ghosts b f d w) g (direction_of b.edge x y z) ≡ ghosts_of b g (direction_of b.edge x y z)
+      same (inr unlike) o = ap (λ (s : List (List ℕ)). get_or s (direction_of b.edge x y z) []) (get_or-set_other b.ghosts f g (set (shell_of b f) d w) [] unlike)
+      same (inl e) (inl unlike) = absurd (unlike e)
+      same (inl e) (inr apart) =
+          let n = direction_of b.edge x y z in
+          ap (λ g. ghosts_of (with_ghosts b f d w) g n) e
+          ∙ ap (λ (s : List (List ℕ)). get_or s n []) written
+          ∙ get_or-set_other (shell_of b f) d n w [] apart
+          ∙ ap (λ g. ghosts_of b g n) (sym e)

@@ -28,7 +28,7 @@ ghost use Rattle.block_fields.specs.BlockStates.{
 };
 ghost use Rattle.block_fields.specs.Cells.{block_of, cell_at, cell_number, cells_of};
 ghost use Rattle.block_fields.specs.Lending.{with_before, with_direction, with_field};
-ghost use Rattle.block_fields.specs.Shells.{IsAround, direction_of, ghost_size};
+ghost use Rattle.block_fields.specs.Shells.{IsAround, direction_of, ghost_size, number_around};
 ghost use Rattle.block_fields.specs.States.{State, IsState, filled, held, total};
 
 /// The blocks of a balanced mesh, one a leaf in order and all of one size, are a state: its total is the sum over the
@@ -82,6 +82,17 @@ pub fn writing_ghosts()
     ensures other_fields { (b : BlockState) (f : ℕ) (x y z : ℤ) (q g : ℕ) → (g ≡ f → ⊥) → shell_of (with_ghost b f x y z q) g ≡ shell_of b g }
     ensures own_cells { (b : BlockState) (f x y z : ℕ) → x < b.edge → y < b.edge → z < b.edge →
         seen_at b f (pos x) (pos y) (pos z) ≡ amount_at b f x y z }
+{}
+
+/// Where a direction's ghosts of a field are written as a list, the cells of that direction hold its elements by number,
+/// and all else stays.
+pub fn writing_directions()
+    ensures written { (b : BlockState) (f d : ℕ) (w : List ℕ) (x y z : ℤ) → IsBlock b → f < length b.amounts → direction_of b.edge x y z ≡ d →
+        (d ≡ 13 → ⊥) → seen_at (with_ghosts b f d w) f x y z ≡ slice_index w (number_around b.edge b.depth x y z) }
+    ensures other_directions { (b : BlockState) (f d : ℕ) (w : List ℕ) (g : ℕ) (x y z : ℤ) → IsBlock b → f < length b.amounts →
+        (direction_of b.edge x y z ≡ d → ⊥) → seen_at (with_ghosts b f d w) g x y z ≡ seen_at b g x y z }
+    ensures other_fields { (b : BlockState) (f d : ℕ) (w : List ℕ) (g : ℕ) (x y z : ℤ) → IsBlock b → f < length b.amounts →
+        (g ≡ f → ⊥) → seen_at (with_ghosts b f d w) g x y z ≡ seen_at b g x y z }
 {}
 
 /// How long the lists of a block are.

@@ -16,7 +16,7 @@ pub use block::Block;
 pub use block::copies::{Copies, ghosts_toward};
 pub use block_laws::{
     blocks_of_a_mesh, lists_of_a_block, samples_around_blocks, second_copies_of_a_mesh,
-    writing_amounts, writing_ghosts, written_lists,
+    writing_amounts, writing_directions, writing_ghosts, written_lists,
 };
 pub use laws::{
     adapting_keeps_totals, filled_states, first_state, samples, samples_of_blocks, totals_bound,
