@@ -1,6 +1,7 @@
 -- Fields that are kept as vectors, seen as lists of lists.
-use Rattle.std.proofs.Common.{◌≡◌, ℕ, zero, suc, ◌<◌, sym, ap, ◌∙◌, arith, List, [], ◌∷◌, ◌⊎◌, Some, slice_get, get_or, set, length, map, inl, inr}
-use Rattle.std.proofs.lemmas.List.{length-map, map-set, get_or-map}
+use Rattle.std.proofs.Common.{◌≡◌, ℕ, zero, suc, ◌<◌, sym, ap, ◌∙◌, arith, List, [], ◌∷◌, ◌⊎◌, Some, slice_get, get_or, set, length, map, inl, inr, Vec, Global}
+use Rattle.std.specs.Vec.{with_items}
+use Rattle.std.proofs.lemmas.List.{length-map, length-set, map-set, get_or-map, with_items_is}
 use Rattle.std.proofs.lemmas.Option.{slice_get-get_or, get_or_from_slice_get, same_Some}
 use Rattle.block_fields.specs.Layout.{HaveLength}
 
@@ -30,3 +31,8 @@ module _ (V : Type 0) (items : V → List ℕ) (fs : List V) (f : ℕ) (v : V) (
 -- a written field
 pub field-set : (V : Type 0) (items : V → List ℕ) (fs : List V) (f : ℕ) (u : V) (ws : List ℕ) → items u ≡ ws → map items (set fs f u) ≡ set (map items fs) f ws
 field-set V items fs f u ws e = map-set items fs f u ∙ ap (set (map items fs) f) e
+
+-- a field of which one element was written
+pub element-set : (fs : List (Vec ℕ Global)) (f i q : ℕ) (v : Vec ℕ Global) (ws : List ℕ) → length ws ≡ v.len → map (λ (v : Vec ℕ Global). v.items) (set fs f (with_items v (set ws i q))) ≡ set (map (λ (v : Vec ℕ Global). v.items) fs) f (set ws i q)
+element-set fs f i q v ws l =
+    field-set (Vec ℕ Global) (λ v. v.items) fs f (with_items v (set ws i q)) (set ws i q) (with_items_is v (set ws i q) (length-set ws i q ∙ l))

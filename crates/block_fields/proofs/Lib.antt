@@ -15,6 +15,7 @@ pub mod Cuts
 pub mod ShellSizes
 pub mod Fields
 pub mod Layouts
+pub mod Insides
 pub mod Seen
 pub mod Zeros
 pub mod Lendings

@@ -9,12 +9,13 @@ ghost use Rattle.block_fields.specs.Blocks.{
   zero_block,
 };
 
-pub(crate) mod copies;
+mod copies;
 mod ghosts;
 mod made;
 mod slices;
 
 use block_index::Place;
+pub use copies::{Copies, ghosts_toward};
 use std::marker::Model;
 
 /// The cells of a block with their ghosts. For each field it holds two lists of amounts, which are exchanged without

@@ -12,8 +12,7 @@ mod shell;
 #[cfg(test)]
 mod tests;
 
-pub use block::Block;
-pub use block::copies::{Copies, ghosts_toward};
+pub use block::{Block, Copies, ghosts_toward};
 pub use block_laws::{
     blocks_of_a_mesh, lists_of_a_block, samples_around_blocks, second_copies_of_a_mesh,
     writing_amounts, writing_directions, writing_ghosts, written_lists,

@@ -1,7 +1,8 @@
-use Rattle.std.proofs.Common.{ℕ, ◌<◌, List, length, map, set, sym, ap, ◌∙◌, subst, arith, Vec, Global}
-use Rattle.block_fields.specs.Blocks.{BlockState, exchanged}
+use Rattle.std.proofs.Common.{ℕ, List, map, set, sym, ap, ◌∙◌, subst, Vec, Global}
+use Rattle.block_fields.specs.Blocks.{exchanged}
 use Rattle.block_fields.specs.Layout.{IsLaidOut, laid_out}
-use Rattle.block_fields.proofs.Fields.{field-at, field-is, field-set}
+use Rattle.block_fields.proofs.Fields.{field-set}
+use Rattle.block_fields.proofs.Insides.{amounts-found, amounts-is, before-found, before-is}
 use Rattle.block_fields.proofs.Layouts.{IsLaidOut-amounts, IsLaidOut-before}
 use Rattle.block_fields.proofs.block.Block.exchange.Goals as goal
 
@@ -15,10 +16,8 @@ invariant_of-self c =
     let shells = map items b.ghosts.items in
     let v = c.index_mut.result.now in
     let u = c.index_mut-2.result.now in
-    let h : f < length amounts = subst (λ (b : BlockState). f < length b.amounts) (sym c.self.view_is) c.requires.field in
-    let k : f < length before = let e = c.self.invariant.one_before_each in omega arith in
-    let long = c.self.invariant.all_cells f v.items (field-at (Vec ℕ Global) items b.amounts.items f v c.index_mut.ensures.value h) in
-    let wide = c.self.invariant.all_before f u.items (field-at (Vec ℕ Global) items b.before.items f u c.index_mut-2.ensures.value k) in
+    let long = c.self.invariant.all_cells f v.items (amounts-found c.self.inside c.self.invariant c.args.self.now c.self.view_is f c.requires.field v c.index_mut.ensures.value) in
+    let wide = c.self.invariant.all_before f u.items (before-found c.self.inside c.self.invariant c.args.self.now c.self.view_is f c.requires.field u c.index_mut-2.ensures.value) in
     let first = IsLaidOut-amounts b.edge b.depth amounts before shells c.self.invariant f u.items wide in
     let both = IsLaidOut-before b.edge b.depth (set amounts f u.items) before shells first f v.items long in
     let a = field-set (Vec ℕ Global) items b.amounts.items f c.swap.new.x u.items (ap items c.swap.ensures.x_after) in
@@ -36,8 +35,6 @@ returns c =
     let shells = map items b.ghosts.items in
     let v = c.index_mut.result.now in
     let u = c.index_mut-2.result.now in
-    let h : f < length amounts = subst (λ (b : BlockState). f < length b.amounts) (sym c.self.view_is) c.requires.field in
-    let k : f < length before = let e = c.self.invariant.one_before_each in omega arith in
-    let a = field-set (Vec ℕ Global) items b.amounts.items f c.swap.new.x u.items (ap items c.swap.ensures.x_after) ∙ ap (set amounts f) (sym (field-is (Vec ℕ Global) items b.before.items f u c.index_mut-2.ensures.value k)) in
-    let e = field-set (Vec ℕ Global) items b.before.items f c.swap.new.y v.items (ap items c.swap.ensures.y_after) ∙ ap (set before f) (sym (field-is (Vec ℕ Global) items b.amounts.items f v c.index_mut.ensures.value h)) in
+    let a = field-set (Vec ℕ Global) items b.amounts.items f c.swap.new.x u.items (ap items c.swap.ensures.x_after) ∙ ap (set amounts f) (sym (before-is c.self.inside c.self.invariant c.args.self.now c.self.view_is f c.requires.field u c.index_mut-2.ensures.value)) in
+    let e = field-set (Vec ℕ Global) items b.before.items f c.swap.new.y v.items (ap items c.swap.ensures.y_after) ∙ ap (set before f) (sym (amounts-is c.self.inside c.self.invariant c.args.self.now c.self.view_is f c.requires.field v c.index_mut.ensures.value)) in
     record { exchanged = (λ i. laid_out b.place b.edge b.depth (a i) (e i) shells) ∙ ap (λ b. exchanged b f) c.self.view_is }

@@ -1,9 +1,9 @@
-use Rattle.std.proofs.Common.{◌≡◌, ℕ, ◌-◌, ◌<◌, List, ◌++◌, length, map, set, take, drop, refl, sym, ap, ◌∙◌, subst, arith, Vec, Global}
+use Rattle.std.proofs.Common.{◌≡◌, ℕ, ◌-◌, List, ◌++◌, length, map, set, take, drop, refl, sym, ap, ◌∙◌, subst, arith, Vec, Global}
 use Rattle.block_fields.specs.Blocks.{BlockState, ghosts_of}
 use Rattle.block_fields.specs.Layout.{IsLaidOut, laid_out}
 use Rattle.block_fields.specs.Lending.{refilled, with_direction}
 use Rattle.block_fields.specs.Shells.{ghost_count, ghost_size}
-use Rattle.block_fields.proofs.Fields.{field-at}
+use Rattle.block_fields.proofs.Insides.{ghosts-found}
 use Rattle.block_fields.proofs.Layouts.{IsLaidOut-shells, ghosts-stretch, length-ghosts}
 use Rattle.block_fields.proofs.Lendings.{direction-written, fields-refilled, length-refilled}
 use Rattle.block_fields.proofs.block.Block.ghosts_mut.Goals as goal
@@ -17,9 +17,7 @@ run_mut-requires-clause-in_bounds c =
     let shells = map items b.ghosts.items in
     let f = c.args.field in
     let v = c.index_mut.result.now in
-    let k : f < length amounts = subst (λ (b : BlockState). f < length b.amounts) (sym c.self.view_is) c.requires.field in
-    let h : f < length shells = let e = c.self.invariant.one_shell_each in omega arith in
-    let at = field-at (Vec ℕ Global) items b.ghosts.items f v c.index_mut.ensures.value h in
+    let at = ghosts-found c.self.inside c.self.invariant c.args.self.now c.self.view_is f c.requires.field v c.index_mut.ensures.value in
     let long : length v.items ≡ ghost_count b.edge b.depth = c.self.invariant.all_ghosts f v.items at in
     let s = c.stretch_of-start in
     let l : v.len ≡ length v.items = v.ok.0 in
@@ -34,9 +32,7 @@ invariant_of-self-lent c w =
     let shells = map items b.ghosts.items in
     let f = c.args.field in
     let v = c.index_mut.result.now in
-    let k : f < length amounts = subst (λ (b : BlockState). f < length b.amounts) (sym c.self.view_is) c.requires.field in
-    let h : f < length shells = let e = c.self.invariant.one_shell_each in omega arith in
-    let at = field-at (Vec ℕ Global) items b.ghosts.items f v c.index_mut.ensures.value h in
+    let at = ghosts-found c.self.inside c.self.invariant c.args.self.now c.self.view_is f c.requires.field v c.index_mut.ensures.value in
     let long : length v.items ≡ ghost_count b.edge b.depth = c.self.invariant.all_ghosts f v.items at in
     let s = c.stretch_of-start in
     let over = take s.result.start v.items ++ (w ++ drop (length w) (drop s.result.start v.items)) in
@@ -52,9 +48,7 @@ returns c =
     let shells = map items b.ghosts.items in
     let f = c.args.field in
     let v = c.index_mut.result.now in
-    let k : f < length amounts = subst (λ (b : BlockState). f < length b.amounts) (sym c.self.view_is) c.requires.field in
-    let h : f < length shells = let e = c.self.invariant.one_shell_each in omega arith in
-    let at = field-at (Vec ℕ Global) items b.ghosts.items f v c.index_mut.ensures.value h in
+    let at = ghosts-found c.self.inside c.self.invariant c.args.self.now c.self.view_is f c.requires.field v c.index_mut.ensures.value in
     let long : length v.items ≡ ghost_count b.edge b.depth = c.self.invariant.all_ghosts f v.items at in
     let s = c.stretch_of-start in
     let d = c.args.direction in

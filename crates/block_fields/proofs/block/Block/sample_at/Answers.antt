@@ -1,10 +1,10 @@
 use Rattle.std.proofs.Common.{◌≡◌, ℕ, ◌+◌, ◌*◌, ◌<◌, List, [], get_or, length, map, sym, ap, ◌∙◌, subst, arith, Vec, Global, w16, to_z, of_z}
 use Rattle.std.proofs.lemmas.Int.{to_z-of_z}
-use Rattle.block_fields.specs.Blocks.{BlockState, IsBlock, ghosts_of, seen_at}
+use Rattle.block_fields.specs.Blocks.{ghosts_of, seen_at}
 use Rattle.block_fields.specs.Layout.{laid_out}
 use Rattle.block_fields.specs.Shells.{direction_of, ghost_count}
-use Rattle.block_fields.proofs.Fields.{field-at, field-is}
-use Rattle.block_fields.proofs.Layouts.{IsLaidOut-IsBlock, ghosts-at}
+use Rattle.block_fields.proofs.Insides.{amounts-found, amounts-is, ghosts-found, kept-IsBlock}
+use Rattle.block_fields.proofs.Layouts.{ghosts-at}
 use Rattle.block_fields.proofs.Seen.{seen-own, seen-around}
 use Rattle.block_fields.proofs.block.Block.sample_at.Goals as goal
 
@@ -13,8 +13,7 @@ bounds-amounts-spot c =
     let b = c.self.inside in
     let items : Vec ℕ Global → List ℕ = λ v. v.items in
     let v = c.index.result.now in
-    let h : c.args.field < length (map items b.amounts.items) = subst (λ (b : BlockState). c.args.field < length b.amounts) (sym c.self.view_is) c.requires.field in
-    let at = field-at (Vec ℕ Global) items b.amounts.items c.args.field v c.index.ensures h in
+    let at = amounts-found c.self.inside c.self.invariant c.args.self.now c.self.view_is c.args.field c.requires.field v c.index.ensures in
     let long : length v.items ≡ b.edge * b.edge * b.edge = c.self.invariant.all_cells c.args.field v.items at in
     let l : length c.as_slice-amounts.result.now ≡ length v.items = ap length c.as_slice-amounts.ensures.value in
     subst (λ k. c.spot_at-spot.result.number < k) (sym (l ∙ long)) (c.spot_at-spot.ensures.own c.if-spot-eq13.true)
@@ -30,9 +29,7 @@ bounds-ghosts-spot c =
     let b = c.self.inside in
     let items : Vec ℕ Global → List ℕ = λ v. v.items in
     let v = c.index-else-spot-eq13.result.now in
-    let k : c.args.field < length (map items b.amounts.items) = subst (λ (b : BlockState). c.args.field < length b.amounts) (sym c.self.view_is) c.requires.field in
-    let h : c.args.field < length (map items b.ghosts.items) = let e = c.self.invariant.one_shell_each in omega arith in
-    let at = field-at (Vec ℕ Global) items b.ghosts.items c.args.field v c.index-else-spot-eq13.ensures h in
+    let at = ghosts-found c.self.inside c.self.invariant c.args.self.now c.self.view_is c.args.field c.requires.field v c.index-else-spot-eq13.ensures in
     let long : length v.items ≡ ghost_count b.edge b.depth = c.self.invariant.all_ghosts c.args.field v.items at in
     let l : length c.as_slice-ghosts.result.now ≡ length v.items = ap length c.as_slice-ghosts.ensures.value in
     subst (λ k. c.spot_at-spot.result.start + c.spot_at-spot.result.number < k) (sym (l ∙ long)) (c.spot_at-spot.ensures.within c.if-spot-eq13.false)
@@ -42,31 +39,25 @@ returns-then-spot-eq13-clause-seen c =
     let b = c.self.inside in
     let items : Vec ℕ Global → List ℕ = λ v. v.items in
     let v = c.index.result.now in
-    let h : c.args.field < length (map items b.amounts.items) = subst (λ (b : BlockState). c.args.field < length b.amounts) (sym c.self.view_is) c.requires.field in
     let x = to_z w16 (of_z w16 c.args.x) in
     let y = to_z w16 (of_z w16 c.args.y) in
     let z = to_z w16 (of_z w16 c.args.z) in
     let s = c.spot_at-spot in
     let state = laid_out b.place b.edge b.depth (map items b.amounts.items) (map items b.before.items) (map items b.ghosts.items) in
-    ap (λ q. get_or q s.result.number 0) (c.as_slice-amounts.ensures.value ∙ sym (field-is (Vec ℕ Global) items b.amounts.items c.args.field v c.index.ensures h))
+    ap (λ q. get_or q s.result.number 0) (c.as_slice-amounts.ensures.value ∙ sym (amounts-is c.self.inside c.self.invariant c.args.self.now c.self.view_is c.args.field c.requires.field v c.index.ensures))
     ∙ ap (λ i. get_or (get_or (map items b.amounts.items) c.args.field []) i 0) s.ensures.number
     ∙ sym (seen-own state c.args.field x y z (sym s.ensures.direction ∙ c.if-spot-eq13.true))
     ∙ (λ i. seen_at (c.self.view_is i) c.args.field (to_z-of_z w16 c.args.x c.ranges.x i) (to_z-of_z w16 c.args.y c.ranges.y i) (to_z-of_z w16 c.args.z c.ranges.z i))
 
 pub returns-then-spot-eq13-clause-limits : goal.returns-then-spot-eq13-clause-limits
-returns-then-spot-eq13-clause-limits c =
-    let b = c.self.inside in
-    let items : Vec ℕ Global → List ℕ = λ v. v.items in
-    subst IsBlock c.self.view_is (IsLaidOut-IsBlock b.place b.edge b.depth (map items b.amounts.items) (map items b.before.items) (map items b.ghosts.items) c.self.invariant)
+returns-then-spot-eq13-clause-limits c = kept-IsBlock c.self.inside c.self.invariant c.args.self.now c.self.view_is
 
 pub returns-else-spot-eq13-clause-seen : goal.returns-else-spot-eq13-clause-seen
 returns-else-spot-eq13-clause-seen c =
     let b = c.self.inside in
     let items : Vec ℕ Global → List ℕ = λ v. v.items in
     let v = c.index-else-spot-eq13.result.now in
-    let k : c.args.field < length (map items b.amounts.items) = subst (λ (b : BlockState). c.args.field < length b.amounts) (sym c.self.view_is) c.requires.field in
-    let h : c.args.field < length (map items b.ghosts.items) = let e = c.self.invariant.one_shell_each in omega arith in
-    let at = field-at (Vec ℕ Global) items b.ghosts.items c.args.field v c.index-else-spot-eq13.ensures h in
+    let at = ghosts-found c.self.inside c.self.invariant c.args.self.now c.self.view_is c.args.field c.requires.field v c.index-else-spot-eq13.ensures in
     let x = to_z w16 (of_z w16 c.args.x) in
     let y = to_z w16 (of_z w16 c.args.y) in
     let z = to_z w16 (of_z w16 c.args.z) in
@@ -84,7 +75,4 @@ returns-else-spot-eq13-clause-seen c =
     ∙ (λ i. seen_at (c.self.view_is i) c.args.field (to_z-of_z w16 c.args.x c.ranges.x i) (to_z-of_z w16 c.args.y c.ranges.y i) (to_z-of_z w16 c.args.z c.ranges.z i))
 
 pub returns-else-spot-eq13-clause-limits : goal.returns-else-spot-eq13-clause-limits
-returns-else-spot-eq13-clause-limits c =
-    let b = c.self.inside in
-    let items : Vec ℕ Global → List ℕ = λ v. v.items in
-    subst IsBlock c.self.view_is (IsLaidOut-IsBlock b.place b.edge b.depth (map items b.amounts.items) (map items b.before.items) (map items b.ghosts.items) c.self.invariant)
+returns-else-spot-eq13-clause-limits c = kept-IsBlock c.self.inside c.self.invariant c.args.self.now c.self.view_is

@@ -1,11 +1,11 @@
-use Rattle.std.proofs.Common.{◌≡◌, ℕ, ◌+◌, ◌<◌, List, length, map, set, sym, ap, ◌∙◌, subst, arith, Vec, Global, w16, to_z, of_z}
-use Rattle.std.specs.Vec.{with_items}
+use Rattle.std.proofs.Common.{◌≡◌, ℕ, ◌+◌, ◌<◌, List, length, map, set, sym, ap, ◌∙◌, subst, Vec, Global, w16, to_z, of_z}
 use Rattle.std.proofs.lemmas.Int.{to_z-of_z}
-use Rattle.std.proofs.lemmas.List.{with_items_is, length-set}
-use Rattle.block_fields.specs.Blocks.{BlockState, ghosts_of, with_ghost, with_ghosts}
+use Rattle.std.proofs.lemmas.List.{length-set}
+use Rattle.block_fields.specs.Blocks.{ghosts_of, with_ghost, with_ghosts}
 use Rattle.block_fields.specs.Layout.{IsLaidOut, laid_out}
 use Rattle.block_fields.specs.Shells.{direction_of, ghost_count}
-use Rattle.block_fields.proofs.Fields.{field-at, field-set}
+use Rattle.block_fields.proofs.Fields.{element-set}
+use Rattle.block_fields.proofs.Insides.{ghosts-found}
 use Rattle.block_fields.proofs.Layouts.{IsLaidOut-shells, ghosts-set}
 use Rattle.block_fields.proofs.block.Block.set_ghost.Goals as goal
 
@@ -15,9 +15,7 @@ bounds-ghosts-spot c =
     let items : Vec ℕ Global → List ℕ = λ v. v.items in
     let v = c.index_mut.result.now in
     let f = c.args.field in
-    let k : f < length (map items b.amounts.items) = subst (λ (b : BlockState). f < length b.amounts) (sym c.self.view_is) c.requires.field in
-    let h : f < length (map items b.ghosts.items) = let e = c.self.invariant.one_shell_each in omega arith in
-    let at = field-at (Vec ℕ Global) items b.ghosts.items f v c.index_mut.ensures.value h in
+    let at = ghosts-found c.self.inside c.self.invariant c.args.self.now c.self.view_is f c.requires.field v c.index_mut.ensures.value in
     let s = c.spot_at-spot in
     let x = to_z w16 (of_z w16 c.args.x) in
     let y = to_z w16 (of_z w16 c.args.y) in
@@ -29,24 +27,18 @@ bounds-ghosts-spot c =
     let l : length c.as_mut_slice-ghosts.result.now ≡ length v.items = ap length c.as_mut_slice-ghosts.ensures.value in
     subst (λ k. s.result.start + s.result.number < k) (sym (l ∙ long)) (s.ensures.within other)
 
--- the ghosts of all fields after the write
-written : (fs : List (Vec ℕ Global)) (f i q : ℕ) (v : Vec ℕ Global) (ws : List ℕ) → length ws ≡ v.len → map (λ (v : Vec ℕ Global). v.items) (set fs f (with_items v (set ws i q))) ≡ set (map (λ (v : Vec ℕ Global). v.items) fs) f (set ws i q)
-written fs f i q v ws l = field-set (Vec ℕ Global) (λ v. v.items) fs f (with_items v (set ws i q)) (set ws i q) (with_items_is v (set ws i q) (length-set ws i q ∙ l))
-
 pub invariant_of-self : goal.invariant_of-self
 invariant_of-self c =
     let b = c.self.inside in
     let items : Vec ℕ Global → List ℕ = λ v. v.items in
     let v = c.index_mut.result.now in
     let f = c.args.field in
-    let k : f < length (map items b.amounts.items) = subst (λ (b : BlockState). f < length b.amounts) (sym c.self.view_is) c.requires.field in
-    let h : f < length (map items b.ghosts.items) = let e = c.self.invariant.one_shell_each in omega arith in
-    let at = field-at (Vec ℕ Global) items b.ghosts.items f v c.index_mut.ensures.value h in
+    let at = ghosts-found c.self.inside c.self.invariant c.args.self.now c.self.view_is f c.requires.field v c.index_mut.ensures.value in
     let s = c.spot_at-spot in
     let ws = c.as_mut_slice-ghosts.result.now in
     let i = s.result.start + s.result.number in
     let long : length (set ws i c.args.q) ≡ ghost_count b.edge b.depth = length-set ws i c.args.q ∙ ap length c.as_mut_slice-ghosts.ensures.value ∙ c.self.invariant.all_ghosts f v.items at in
-    subst (IsLaidOut b.edge b.depth (map items b.amounts.items) (map items b.before.items)) (sym (written b.ghosts.items f i c.args.q v ws c.as_mut_slice-ghosts.ensures.len))
+    subst (IsLaidOut b.edge b.depth (map items b.amounts.items) (map items b.before.items)) (sym (element-set b.ghosts.items f i c.args.q v ws c.as_mut_slice-ghosts.ensures.len))
     (IsLaidOut-shells b.edge b.depth (map items b.amounts.items) (map items b.before.items) (map items b.ghosts.items) c.self.invariant f (set ws i c.args.q) long)
 
 pub returns : goal.returns
@@ -55,9 +47,7 @@ returns c =
     let items : Vec ℕ Global → List ℕ = λ v. v.items in
     let v = c.index_mut.result.now in
     let f = c.args.field in
-    let k : f < length (map items b.amounts.items) = subst (λ (b : BlockState). f < length b.amounts) (sym c.self.view_is) c.requires.field in
-    let h : f < length (map items b.ghosts.items) = let e = c.self.invariant.one_shell_each in omega arith in
-    let at = field-at (Vec ℕ Global) items b.ghosts.items f v c.index_mut.ensures.value h in
+    let at = ghosts-found c.self.inside c.self.invariant c.args.self.now c.self.view_is f c.requires.field v c.index_mut.ensures.value in
     let s = c.spot_at-spot in
     let x = to_z w16 (of_z w16 c.args.x) in
     let y = to_z w16 (of_z w16 c.args.y) in
@@ -75,7 +65,7 @@ returns c =
     let state = laid_out b.place b.edge b.depth amounts before all in
     record {
       one_ghost = ap (laid_out b.place b.edge b.depth amounts before)
-          (written b.ghosts.items f (s.result.start + s.result.number) q v ws c.as_mut_slice-ghosts.ensures.len
+          (element-set b.ghosts.items f (s.result.start + s.result.number) q v ws c.as_mut_slice-ghosts.ensures.len
           ∙ ap (λ xs. set all f (set xs (s.result.start + s.result.number) q)) c.as_mut_slice-ghosts.ensures.value
           ∙ ap (λ k. set all f (set v.items (k + s.result.number) q)) s.ensures.start)
           ∙ ghosts-set b.place b.edge b.depth amounts before all f v.items at d s.result.number q below there
