@@ -1,6 +1,5 @@
 -- Lemmas by subject.
 pub mod Limits
-pub mod Greater
 pub mod LevelLimits
 pub mod Phases
 pub mod PhaseMeshes

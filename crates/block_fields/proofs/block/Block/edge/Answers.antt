@@ -1,0 +1,5 @@
+use Rattle.block_fields.proofs.Insides.{kept-IsBlock}
+use Rattle.block_fields.proofs.block.Block.edge.Goals as goal
+
+pub returns-clause-limits : goal.returns-clause-limits
+returns-clause-limits c = kept-IsBlock c.self.inside c.self.invariant c.args.self.now c.self.view_is
