@@ -1,3 +1,4 @@
+-- Lemmas by subject.
 pub mod Sums
 pub mod CellFacts
 pub mod CellSums

@@ -1,3 +1,4 @@
+-- Definitions by subject.
 pub mod Cells
 pub mod States
 pub mod Samples

@@ -9,8 +9,6 @@ mod block;
 mod block_laws;
 mod laws;
 mod shell;
-#[cfg(test)]
-mod tests;
 
 pub use block::{Block, Copies, ghosts_toward};
 pub use block_laws::{

@@ -1,2 +1,3 @@
+-- Lemmas by subject.
 pub mod ReadLemmas
 pub mod WriteLemmas

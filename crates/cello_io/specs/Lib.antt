@@ -1,3 +1,4 @@
+-- Definitions by subject.
 pub mod Counts
 pub mod Devices
 pub mod Files

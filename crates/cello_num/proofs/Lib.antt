@@ -1,3 +1,4 @@
+-- Lemmas by subject.
 mod Padding
 pub mod PartSums
 pub mod Sums

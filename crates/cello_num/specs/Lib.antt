@@ -1,3 +1,4 @@
+-- Definitions by subject.
 pub mod Name
 pub mod Parts
 pub mod Sums

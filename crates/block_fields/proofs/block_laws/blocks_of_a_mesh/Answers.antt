@@ -1,3 +1,4 @@
+-- The law, from its lemma.
 use Rattle.std.proofs.Common.{◌*◌, ◌∙◌, ap, arith}
 use Rattle.block_fields.proofs.StatesOfBlocks.{HaveCells-amounts, IsState-state_by, filled-state_by, held-state_by, lists-filled, total-state_by}
 use Rattle.block_fields.proofs.block_laws.blocks_of_a_mesh.Goals as goal

@@ -1,3 +1,4 @@
+-- The law, from its lemma.
 use Rattle.std.proofs.Common.{arith, []}
 use Rattle.std.proofs.lemmas.Option.{slice_get-get_or}
 use Rattle.block_fields.specs.Blocks.{amounts_of, before_of, ghosts_of, shell_of}

@@ -1,3 +1,4 @@
+-- The law, from its lemma.
 use Rattle.block_fields.proofs.FilledStates.{at-map}
 use Rattle.block_fields.proofs.SamplesAround.{seen-samples}
 use Rattle.block_fields.proofs.block_laws.samples_around_blocks.Goals as goal

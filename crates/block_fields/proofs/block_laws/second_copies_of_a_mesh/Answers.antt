@@ -1,3 +1,4 @@
+-- The law, from its lemma.
 use Rattle.block_fields.proofs.StatesOfBlocks.{HaveCells-before, IsState-state_by, held-state_by, total-state_by}
 use Rattle.block_fields.proofs.block_laws.second_copies_of_a_mesh.Goals as goal
 

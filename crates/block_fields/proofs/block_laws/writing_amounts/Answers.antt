@@ -1,3 +1,4 @@
+-- The law, from its lemma.
 use Rattle.block_fields.proofs.Writes.{amount-stays, amount-written, field-stays}
 use Rattle.block_fields.proofs.block_laws.writing_amounts.Goals as goal
 

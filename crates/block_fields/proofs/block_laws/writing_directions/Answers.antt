@@ -1,3 +1,4 @@
+-- The law, from its lemma.
 use Rattle.std.proofs.Common.{inl, inr}
 use Rattle.block_fields.proofs.GhostWrites.{seen-elsewhere, seen-written}
 use Rattle.block_fields.proofs.block_laws.writing_directions.Goals as goal

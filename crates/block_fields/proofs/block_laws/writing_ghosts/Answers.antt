@@ -1,3 +1,4 @@
+-- The law, from its lemma.
 use Rattle.block_fields.proofs.GhostWrites.{ghost-stays, ghost-written, shell-stays}
 use Rattle.block_fields.proofs.Seen.{seen-within}
 use Rattle.block_fields.proofs.block_laws.writing_ghosts.Goals as goal

@@ -1,3 +1,4 @@
+-- The law, from its lemma.
 use Rattle.block_fields.proofs.Lendings.{with_before-whole, with_direction-whole, with_field-whole}
 use Rattle.block_fields.proofs.block_laws.written_lists.Goals as goal
 

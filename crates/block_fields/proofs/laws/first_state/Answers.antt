@@ -1,3 +1,4 @@
+-- The law, from its lemma.
 use Rattle.std.proofs.Common.{◌∙◌}
 use Rattle.leaf_set.specs.RootMesh.{root_mesh}
 use Rattle.block_fields.proofs.Totals.{total-filled}

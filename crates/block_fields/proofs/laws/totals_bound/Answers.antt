@@ -1,3 +1,4 @@
+-- The law, from its lemma.
 use Rattle.block_fields.proofs.SampleBounds.{held-most, sample-most}
 use Rattle.block_fields.proofs.laws.totals_bound.Goals as goal
 

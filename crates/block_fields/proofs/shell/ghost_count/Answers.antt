@@ -1,3 +1,4 @@
+-- What is left of the proof of this function.
 use Rattle.std.proofs.Common.{arith}
 use Rattle.block_fields.proofs.ShellSizes.{count-cube, cube-most}
 use Rattle.block_fields.proofs.shell.ghost_count.Goals as goal

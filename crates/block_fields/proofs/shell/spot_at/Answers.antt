@@ -1,3 +1,4 @@
+-- What is left of the proof of this function.
 use Rattle.std.proofs.Common.{◌+◌, ◌*◌, ◌<◌, sym, ap, ◌∙◌, subst, arith, w16}
 use Rattle.std.proofs.lemmas.Int.{to_z-of_z}
 use Rattle.block_fields.specs.Shells.{ghost_count, ghost_size, ghost_start, side_of}

@@ -1,3 +1,4 @@
+-- What is left of the proof of this function.
 use Rattle.std.proofs.Common.{◌≡◌, ℕ, ◌+◌, ◌/◌, ◌%◌, ◌<◌, ◌≤◌, ap, ◌∙◌, arith}
 use Rattle.block_fields.specs.Shells.{direction, ghost_count, ghost_size, ghost_start}
 use Rattle.block_fields.proofs.ShellSizes.{count-cube, cube-most, start-within_count}

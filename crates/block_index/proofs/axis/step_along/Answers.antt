@@ -1,3 +1,4 @@
+-- What is left of the proof of this function.
 use Rattle.std.proofs.Common.{◌≡◌, pos, negsuc, subst, arith}
 use Rattle.std.proofs.lemmas.Int.{ints}
 use Rattle.block_index.specs.Axes.{IsNext}

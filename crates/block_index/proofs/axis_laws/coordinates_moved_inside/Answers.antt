@@ -1,3 +1,4 @@
+-- The law, from its lemma.
 use Rattle.block_index.proofs.Moved.{moved-inside, moved-stays, moved-step, moved-around, nearest-before, nearest-after}
 use Rattle.block_index.proofs.axis_laws.coordinates_moved_inside.Goals as goal
 

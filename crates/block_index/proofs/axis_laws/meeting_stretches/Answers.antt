@@ -1,3 +1,4 @@
+-- The law, from its lemma.
 use Rattle.block_index.proofs.Meetings.{MeetsAround-sym, MeetsAround-grow, MeetsAround-scale, MeetsAround-unscale}
 use Rattle.block_index.proofs.axis_laws.meeting_stretches.Goals as goal
 

@@ -1,3 +1,4 @@
+-- The law, from its lemma.
 use Rattle.block_index.proofs.Beyond.{IsNext-one, IsNext-none, IsNext-back}
 use Rattle.block_index.proofs.axis_laws.steps_along_an_axis.Goals as goal
 

@@ -1,3 +1,4 @@
+-- The law, from its lemma.
 use Rattle.block_index.proofs.Covering.{Covers-from_test}
 use Rattle.block_index.proofs.Ranks.{IsBefore-covers, finer-covers}
 use Rattle.block_index.proofs.laws.ancestors_stand_first.Goals as goal

@@ -1,3 +1,4 @@
+-- The law, from its lemma.
 use Rattle.block_index.proofs.Covering.{Covers-from_test, test-from_Covers}
 use Rattle.block_index.proofs.Descendants.{covers-between}
 use Rattle.block_index.proofs.laws.contained_places_stand_together.Goals as goal

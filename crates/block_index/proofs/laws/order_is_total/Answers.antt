@@ -1,3 +1,4 @@
+-- The law, from its lemma.
 use Rattle.block_index.proofs.Ranks.{same_from_rank}
 use Rattle.block_index.proofs.laws.order_is_total.Goals as goal
 

@@ -1,3 +1,4 @@
+-- What is left of the proof of this function.
 use Rattle.std.proofs.Common.{rules, ◌≡◌, ◌∙◌, sym}
 use Rattle.block_index.specs.Order.{compared_in_steps}
 use Rattle.block_index.proofs.Ranks.{nat_cmp-rank}

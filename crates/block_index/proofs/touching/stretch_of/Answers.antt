@@ -1,3 +1,4 @@
+-- What is left of the proof of this function.
 use Rattle.std.proofs.Common.{arith, ap, ◌-◌, ◌*◌, ◌^◌, ◌<◌}
 use Rattle.std.proofs.lemmas.Nat.{one_shl}
 use Rattle.block_index.proofs.Widths.{end_most}

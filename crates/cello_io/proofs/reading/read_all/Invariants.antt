@@ -1,3 +1,4 @@
+-- What holds at each turn of the loop.
 use Rattle.std.proofs.Common.{◌≡◌, ◌-◌, ◌≤◌, length}
 use Rattle.std.specs.Io.KnownBytes.{prepend_known}
 use Rattle.cello_io.proofs.reading.read_all.Given as goal

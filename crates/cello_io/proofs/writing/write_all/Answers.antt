@@ -1,3 +1,4 @@
+-- What is left of the proof of this function.
 use Rattle.std.proofs.Common.{◌++◌, length, take, ap, ◌∙◌, arith, length-append}
 use Rattle.cello_io.proofs.WriteLemmas.{written_then, front_moves}
 use Rattle.cello_io.proofs.writing.write_all.Goals as goal

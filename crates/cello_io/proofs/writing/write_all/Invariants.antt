@@ -1,3 +1,4 @@
+-- What holds at each turn of the loop.
 use Rattle.std.proofs.Common.{◌≡◌, ◌≤◌, List, ℕ, [], ◌++◌, length}
 use Rattle.std.specs.Io.KnownBytes.{append_known}
 use Rattle.cello_io.proofs.writing.write_all.Given as goal

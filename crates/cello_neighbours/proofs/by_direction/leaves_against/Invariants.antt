@@ -1,3 +1,4 @@
+-- What holds at each turn of the loop.
 use Rattle.cello_neighbours.proofs.Collections.{Collects}
 use Rattle.cello_neighbours.proofs.by_direction.leaves_against.Given as goal
 

@@ -1,3 +1,4 @@
+-- The law, from its lemma.
 use Rattle.cello_neighbours.proofs.CoverLaws.{Touches-IsCover}
 use Rattle.cello_neighbours.proofs.laws.covers_touch.Goals as goal
 

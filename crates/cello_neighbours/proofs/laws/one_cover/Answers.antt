@@ -1,3 +1,4 @@
+-- The law, from its lemma.
 use Rattle.cello_neighbours.proofs.CoverLaws.{IsCover-one}
 use Rattle.cello_neighbours.proofs.laws.one_cover.Goals as goal
 

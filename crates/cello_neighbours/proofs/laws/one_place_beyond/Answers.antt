@@ -1,3 +1,4 @@
+-- The law, from its lemma.
 use Rattle.std.proofs.Common.{inl, inr}
 use Rattle.block_index.proofs.Beyond.{IsBeyond-one, beyond_or_leaves, IsBeyond-LeavesDomain}
 use Rattle.cello_neighbours.proofs.laws.one_place_beyond.Goals as goal

@@ -1,3 +1,4 @@
+-- What holds at each turn of the loop.
 use Rattle.cello_neighbours.proofs.Gatherings.{Gathers}
 use Rattle.cello_neighbours.proofs.neighbours.touching.Given as goal
 

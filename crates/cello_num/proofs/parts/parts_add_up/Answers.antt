@@ -1,3 +1,4 @@
+-- The law, from its lemma.
 use Rattle.cello_num.proofs.PartSums.{parts_add, part-zero, part-most}
 use Rattle.cello_num.proofs.parts.parts_add_up.Goals as goal
 

@@ -1,3 +1,4 @@
+-- What is left of the proof of this function.
 use Rattle.std.proofs.Common.{◌≡◌, ◌≤◌, IfSome, arith, length, refl, sym, subst, ◌∙◌}
 use Rattle.std.proofs.lemmas.Option.{slice_get_read}
 use Rattle.leaf_set.proofs.BarePlaces.{inside_at, HasWalked, HasWalked-none, HasWalked-more, HasWalked-stopped, HasWalked-through, HasWalked-ended}

@@ -1,3 +1,4 @@
+-- What holds at each turn of the loop.
 use Rattle.leaf_set.proofs.BarePlaces.{HasWalked}
 use Rattle.leaf_set.proofs.bare_places.first_bare.Given as goal
 

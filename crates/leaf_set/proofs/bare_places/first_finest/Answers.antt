@@ -1,3 +1,4 @@
+-- What is left of the proof of this function.
 use Rattle.std.proofs.Common.{◌≡◌, ◌+◌, ◌-◌, arith, sym, ap, subst, ◌∙◌}
 use Rattle.block_index.specs.Places.{IsInside, IsPlace}
 use Rattle.leaf_set.specs.Lemmas.Stretches.{beginning}

@@ -1,3 +1,4 @@
+-- What is left of the proof of this function.
 use Rattle.std.proofs.Common.{◌≡◌, ◌+◌, arith, sym, ap, subst, ◌∙◌}
 use Rattle.block_index.specs.Places.{Cube, IsInside, child_of, parent_of, child_number}
 use Rattle.leaf_set.specs.Lemmas.Stretches.{ending, IsFirstFrom}

@@ -1,3 +1,4 @@
+-- What holds at each turn of the loop.
 use Rattle.std.proofs.Common.{◌≡◌}
 use Rattle.block_index.specs.Places.{IsInside}
 use Rattle.leaf_set.specs.Lemmas.Stretches.{ending}

@@ -1,3 +1,4 @@
+-- What is left of the proof of this function.
 use Rattle.std.proofs.Common.{arith, ap, get_or}
 use Rattle.leaf_set.proofs.Stretches.{root_in_row, root_in_next_row, root_in_next_plane, no_root_after}
 use Rattle.leaf_set.proofs.Values.{IfSome-value}

@@ -1,3 +1,4 @@
+-- What holds at each turn of the loop.
 use Rattle.std.proofs.Common.{ℕ, ◌<◌}
 use Rattle.leaf_set.specs.LeafFaults.{LiesOutside}
 use Rattle.leaf_set.proofs.faults.first_outside.Given as goal

@@ -1,3 +1,4 @@
+-- What holds at each turn of the loop.
 use Rattle.std.proofs.Common.{ℕ, ◌+◌, ◌<◌}
 use Rattle.leaf_set.proofs.Overlaps.{CoversNext}
 use Rattle.leaf_set.proofs.faults.first_overlap.Given as goal

@@ -1,3 +1,4 @@
+-- What is left of the proof of this function.
 use Rattle.std.proofs.Common.{arith, below_more, sym, true≢false}
 use Rattle.std.proofs.lemmas.Option.{slice_get_within}
 use Rattle.leaf_set.proofs.InOrder.{few_in_order}

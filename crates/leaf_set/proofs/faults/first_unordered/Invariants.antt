@@ -1,3 +1,4 @@
+-- What holds at each turn of the loop.
 use Rattle.leaf_set.proofs.InOrder.{InOrderBelow, ArePlacesBelow}
 use Rattle.leaf_set.proofs.faults.first_unordered.Given as goal
 

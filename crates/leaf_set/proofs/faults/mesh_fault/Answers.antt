@@ -1,3 +1,4 @@
+-- What is left of the proof of this function.
 use Rattle.std.proofs.Common.{refl}
 use Rattle.leaf_set.proofs.BarePlaces.{IsMesh-CoverAll}
 use Rattle.leaf_set.proofs.faults.mesh_fault.Goals as goal

@@ -1,3 +1,4 @@
+-- What is left of the proof of this function.
 use Rattle.std.proofs.Common.{◌≡◌, ℕ, ℤ, sym, ap, ◌∙◌, subst, to_z, of_z, w8, IfSome}
 use Rattle.block_index.specs.Beyond.{IsBeyond}
 use Rattle.block_index.proofs.Beyond.{step_read}

@@ -1,3 +1,4 @@
+-- What is left of the proof of this function.
 use Rattle.std.proofs.Common.{sym, arith}
 use Rattle.leaf_set.proofs.StepMeetings.{corner_step-none, corner_step-out}
 use Rattle.leaf_set.proofs.jump.corner_step.Goals as goal

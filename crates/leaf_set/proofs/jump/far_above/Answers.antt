@@ -1,3 +1,4 @@
+-- What is left of the proof of this function.
 use Rattle.std.proofs.Common.{◌≡◌, ◌≤◌, ◌↔◌, true≢false, Some, IsNone, slice_get, refl, sym, ap, subst, arith, inl, inr}
 use Rattle.std.proofs.lemmas.Bool.{cases_lt}
 use Rattle.block_index.specs.Places.{Cube}

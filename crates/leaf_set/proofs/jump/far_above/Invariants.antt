@@ -1,3 +1,4 @@
+-- What holds at each turn of the loop.
 use Rattle.leaf_set.proofs.FarLeaves.{RisesTo}
 use Rattle.leaf_set.proofs.jump.far_above.Given as goal
 

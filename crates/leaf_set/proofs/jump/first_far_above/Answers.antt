@@ -1,3 +1,4 @@
+-- What is left of the proof of this function.
 use Rattle.std.proofs.Common.{◌+◌, sym, subst}
 use Rattle.std.proofs.lemmas.Option.{none-some, same_Some}
 use Rattle.leaf_set.proofs.FarLeaves.{leaf_read, IsFirstOver, IsFirstOver-own, IsFirstOver-skip, IsFirstOver-take, IsFarAbove-IsFarOver, IsSomeAnd-IsFirstOver}

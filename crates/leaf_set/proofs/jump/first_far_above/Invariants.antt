@@ -1,3 +1,4 @@
+-- What holds at each turn of the loop.
 use Rattle.leaf_set.proofs.FarLeaves.{IsFirstOver}
 use Rattle.leaf_set.proofs.jump.first_far_above.Given as goal
 

@@ -1,3 +1,4 @@
+-- What holds at each turn of the loop.
 use Rattle.leaf_set.proofs.FirstJumps.{IsFirstJump}
 use Rattle.leaf_set.proofs.jump.first_jump.Given as goal
 

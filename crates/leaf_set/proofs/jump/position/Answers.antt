@@ -1,3 +1,4 @@
+-- What is left of the proof of this function.
 use Rattle.block_index.proofs.Equality.{position-place_eq}
 use Rattle.leaf_set.proofs.Positions.{position-none}
 use Rattle.leaf_set.proofs.jump.position.Goals as goal

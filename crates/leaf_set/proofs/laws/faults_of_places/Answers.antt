@@ -1,3 +1,4 @@
+-- The law, from its lemma.
 use Rattle.leaf_set.proofs.OneFault.{no_fault, one_fault}
 use Rattle.leaf_set.proofs.laws.faults_of_places.Goals as goal
 

@@ -1,3 +1,4 @@
+-- The law, from its lemma.
 use Rattle.leaf_set.proofs.Leaves.{find_leaf}
 use Rattle.leaf_set.proofs.LeafCounts.{length-IsMesh, length-IsMesh_limit}
 use Rattle.leaf_set.proofs.MeshLaws.{IsMesh-HasDistinctLeaves, IsMesh-HasLeavesInOrder, IsMesh-HasLeavesApart, IsMesh-HasOneLeafOver, IsMesh-HasLeafNear, IsMesh-HasLastLeafOver}

@@ -1,3 +1,4 @@
+-- The law, from its lemma.
 use Rattle.leaf_set.proofs.NextMeshes.{next_mesh-IsMesh}
 use Rattle.leaf_set.proofs.Origins.{Origin-next_mesh}
 use Rattle.leaf_set.proofs.laws.next_mesh_is_a_mesh.Goals as goal

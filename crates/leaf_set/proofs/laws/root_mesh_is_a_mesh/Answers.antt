@@ -1,3 +1,4 @@
+-- The law, from its lemma.
 use Rattle.leaf_set.proofs.RootMeshes.{root_mesh-IsMesh, root_mesh-level, root_mesh-IsBalanced}
 use Rattle.leaf_set.proofs.laws.root_mesh_is_a_mesh.Goals as goal
 

@@ -1,3 +1,4 @@
+-- The law, from its lemma.
 use Rattle.leaf_set.proofs.Solutions.{IsLeast-one}
 use Rattle.leaf_set.proofs.LeastLevels.{least_exists}
 use Rattle.leaf_set.proofs.level_laws.least_solution.Goals as goal

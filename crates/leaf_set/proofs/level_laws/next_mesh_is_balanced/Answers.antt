@@ -1,3 +1,4 @@
+-- The law, from its lemma.
 use Rattle.leaf_set.proofs.Balance.{next_mesh-IsBalanced}
 use Rattle.leaf_set.proofs.LevelChanges.{Origin-near, Overlap-DifferByAtMostOne}
 use Rattle.leaf_set.proofs.Origins.{Origin-next_mesh}

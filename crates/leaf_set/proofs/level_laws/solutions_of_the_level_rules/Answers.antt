@@ -1,3 +1,4 @@
+-- The law, from its lemma.
 use Rattle.leaf_set.proofs.Solutions.{greatest_levels-IsSolution, IsSolution-greatest, IsSolution-changes, pointwise_min-IsSolution}
 use Rattle.leaf_set.proofs.level_laws.solutions_of_the_level_rules.Goals as goal
 

@@ -1,3 +1,4 @@
+-- The law, from its lemma.
 use Rattle.leaf_set.proofs.Boxes.{Touches-sym, Touches-covers}
 use Rattle.leaf_set.proofs.level_laws.touching_places.Goals as goal
 

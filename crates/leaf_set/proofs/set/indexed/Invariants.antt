@@ -1,3 +1,4 @@
+-- What holds at each turn of the loop.
 use Rattle.std.proofs.Common.{◌≡◌, take}
 use Rattle.leaf_set.proofs.set.indexed.Given as goal
 

@@ -1,3 +1,4 @@
+-- What is left of the proof of this function.
 use Rattle.std.proofs.Common.{◌*◌, ◌<◌, length, sym, ap, ◌∙◌, subst}
 use Rattle.block_fields.specs.Blocks.{BlockState}
 use Rattle.block_fields.proofs.Insides.{length-amounts}

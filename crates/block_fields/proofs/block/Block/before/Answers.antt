@@ -1,3 +1,4 @@
+-- What is left of the proof of this function.
 use Rattle.std.proofs.Common.{◌*◌, length, ap, ◌∙◌}
 use Rattle.block_fields.specs.Blocks.{BlockState}
 use Rattle.block_fields.proofs.Insides.{kept-IsBlock, length-before}

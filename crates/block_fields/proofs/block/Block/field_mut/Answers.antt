@@ -1,3 +1,4 @@
+-- What is left of the proof of this function.
 use Rattle.std.proofs.Common.{◌≡◌, ℕ, ◌*◌, List, [], length, map, set, get_or, refl, sym, ap, ◌∙◌, subst, Vec, Global}
 use Rattle.block_fields.specs.Blocks.{BlockState}
 use Rattle.block_fields.specs.Layout.{IsLaidOut, laid_out}

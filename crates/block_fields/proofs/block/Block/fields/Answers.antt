@@ -1,3 +1,4 @@
+-- What is left of the proof of this function.
 use Rattle.block_fields.proofs.Insides.{kept-IsBlock}
 use Rattle.block_fields.proofs.block.Block.fields.Goals as goal
 

@@ -1,3 +1,4 @@
+-- What is left of the proof of this function.
 use Rattle.std.proofs.Common.{◌≡◌, ℕ, ◌-◌, List, length, map, take, drop, sym, ap, ◌∙◌, arith, Vec, Global}
 use Rattle.block_fields.specs.Blocks.{BlockState, ghosts_of}
 use Rattle.block_fields.specs.Shells.{ghost_count, ghost_size}

@@ -1,3 +1,4 @@
+-- What is left of the proof of this function.
 use Rattle.std.proofs.Common.{◌≡◌, ℕ, ◌*◌, List, map, replicate, sym, ap, ◌∙◌, subst, Vec, Global}
 use Rattle.block_fields.specs.Blocks.{IsBlock}
 use Rattle.block_fields.specs.Layout.{laid_out}

@@ -1,3 +1,4 @@
+-- What is left of the proof of this function.
 use Rattle.std.proofs.Common.{◌≡◌, ℕ, ◌+◌, ◌<◌, List, length, map, set, sym, ap, ◌∙◌, subst, Vec, Global, w16, to_z, of_z}
 use Rattle.std.proofs.lemmas.Int.{to_z-of_z}
 use Rattle.std.proofs.lemmas.List.{length-set}

@@ -1,3 +1,4 @@
+-- What is left of the proof of this function.
 use Rattle.std.proofs.Common.{◌≡◌, ◌-◌, length, take, drop, sym, ap, ◌∙◌, arith}
 use Rattle.block_fields.specs.Shells.{ghost_size}
 use Rattle.block_fields.proofs.Layouts.{piece-stretch, length-stretch}

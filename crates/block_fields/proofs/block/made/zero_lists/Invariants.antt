@@ -1,3 +1,4 @@
+-- What holds at each turn of the loop.
 use Rattle.std.proofs.Common.{◌≡◌, ℕ, map, replicate, Vec, Global}
 use Rattle.block_fields.proofs.block.made.zero_lists.Given as goal
 

@@ -1,3 +1,4 @@
+-- What is left of the proof of this function.
 use Rattle.std.proofs.Common.{arith, ◌<◌}
 use Rattle.block_index.proofs.Halves.{half_below}
 use Rattle.block_index.proofs.place.Place.parent.Goals as goal

@@ -1,3 +1,4 @@
+-- What is left of the proof of this function.
 use Rattle.std.proofs.Common.{◌≡◌, ◌+◌, List, ℕ, ◌++◌, take, drop, Some, sym, ◌∙◌, ap, take-append-drop}
 use Rattle.std.proofs.lemmas.List.{drop-drop, take_rest}
 use Rattle.cello_io.proofs.memory_source.MemorySourceSource.read_piece.Goals as goal

@@ -1,3 +1,4 @@
+-- What is left of the proof of this function.
 use Rattle.std.proofs.Common.{refl, sym, ◌∙◌, subst}
 use Rattle.block_index.specs.Beyond.{IsBeyond}
 use Rattle.block_index.proofs.Beyond.{step_read}

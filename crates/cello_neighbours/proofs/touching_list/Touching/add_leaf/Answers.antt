@@ -1,3 +1,4 @@
+-- What is left of the proof of this function.
 use Rattle.cello_neighbours.proofs.Additions.{IsAdded-other}
 use Rattle.cello_neighbours.proofs.touching_list.Touching.add_leaf.Goals as goal
 

@@ -1,3 +1,4 @@
+-- What is left of the proof of this function.
 use Rattle.std.proofs.Common.{take, get_or, sym, subst, arith}
 use Rattle.std.proofs.lemmas.List.{take_more, length-take, take_all}
 use Rattle.cello_neighbours.specs.Lemmas.Added.{IsAdded}

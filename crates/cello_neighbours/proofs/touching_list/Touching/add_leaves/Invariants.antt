@@ -1,3 +1,4 @@
+-- What holds at each turn of the loop.
 use Rattle.std.proofs.Common.{take}
 use Rattle.cello_neighbours.specs.Lemmas.Added.{IsAdded}
 use Rattle.cello_neighbours.proofs.touching_list.Touching.add_leaves.Given as goal

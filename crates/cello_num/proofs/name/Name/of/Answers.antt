@@ -1,3 +1,4 @@
+-- What is left of the proof of this function.
 use Rattle.std.proofs.Common.{◌≤◌, length, arith}
 use Rattle.cello_num.proofs.Padding.{padded_copy}
 use Rattle.cello_num.proofs.name.Name.of.Goals as goal

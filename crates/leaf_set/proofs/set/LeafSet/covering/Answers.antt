@@ -1,3 +1,4 @@
+-- What is left of the proof of this function.
 use Rattle.std.proofs.Common.{refl, subst}
 use Rattle.leaf_set.proofs.Ancestors.{HasSearched, HasSearched-none, HasSearched-covers, HasSearched-parent, HasSearched-ended}
 use Rattle.leaf_set.proofs.set.LeafSet.covering.Goals as goal

@@ -1,3 +1,4 @@
+-- What holds at each turn of the loop.
 use Rattle.leaf_set.proofs.Ancestors.{HasSearched, levels_left}
 use Rattle.leaf_set.proofs.set.LeafSet.covering.Given as goal
 

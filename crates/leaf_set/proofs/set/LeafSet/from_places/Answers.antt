@@ -1,3 +1,4 @@
+-- What is left of the proof of this function.
 use Rattle.std.proofs.Common.{refl, subst}
 use Rattle.leaf_set.specs.LeafFaults.{Jumps, IsFirstPair}
 use Rattle.leaf_set.specs.Meshes.{IsMesh}

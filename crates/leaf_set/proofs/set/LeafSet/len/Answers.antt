@@ -1,3 +1,4 @@
+-- What is left of the proof of this function.
 use Rattle.std.proofs.Common.{◌^◌, ◌≤◌, length, subst}
 use Rattle.leaf_set.proofs.LeafCounts.{length-IsMesh_limit}
 use Rattle.leaf_set.proofs.set.LeafSet.len.Goals as goal

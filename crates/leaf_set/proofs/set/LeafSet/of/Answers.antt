@@ -1,3 +1,4 @@
+-- What is left of the proof of this function.
 use Rattle.leaf_set.proofs.MeshLaws.{IsMesh-HasDistinctLeaves}
 use Rattle.leaf_set.proofs.set.LeafSet.of.Goals as goal
 

@@ -1,3 +1,4 @@
+-- What is left of the proof of this function.
 use Rattle.std.proofs.Common.{position, ap, ◌∙◌}
 use Rattle.std.specs.List.{list_any}
 use Rattle.block_index.proofs.Equality.{place_eq, position-place_eq}
