@@ -1,0 +1,4 @@
+pub mod Rows
+pub mod SplitNumbers
+pub mod JoinNumbers
+pub mod RoundTrips

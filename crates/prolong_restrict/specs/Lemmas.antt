@@ -1,0 +1,2 @@
+pub mod JoinNumbers
+pub mod SplitNumbers

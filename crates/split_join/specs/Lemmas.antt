@@ -1,0 +1,2 @@
+pub mod NewBlocks
+pub mod Steps
