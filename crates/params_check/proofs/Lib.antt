@@ -16,7 +16,7 @@ pub mod KeptSubs
 pub mod KeptValues
 pub mod NoFaults
 pub mod OneAccepted
-pub mod Sums
+pub mod Counts
 pub mod Stretches
 pub mod Balls
 pub mod Boxes

@@ -1,18 +1,16 @@
 -- What three walks say of the parameters of a tree: the first fault of the first walk that has one, or the values.
-use Rattle.std.proofs.Common.{◌≡◌, ℕ, ◌^◌, ◌≤◌, List, [], ◌∷◌, ◌++◌, Option, Some, None, Ok, Err, refl, sym, ap, ◌∙◌, subst, All}
+use Rattle.std.proofs.Common.{◌≡◌, ℕ, List, [], ◌∷◌, ◌++◌, Option, Some, None, Ok, Err, refl, sym, ap, ◌∙◌, subst}
 use Rattle.std.specs.declared.result.Result.{Result}
 use Rattle.std.specs.Result.{IsErrAnd, IfErr}
-use Rattle.std.proofs.lemmas.List.Elements.{All-weaker}
 use Rattle.params_syntax.specs.declared.tree.Group.{Group}
 use Rattle.params_syntax.specs.Trees.{IsTree}
 use Rattle.params_syntax.specs.Canonical.{canonical_text}
 use Rattle.params_check.specs.declared.fault.ParamFault.{ParamFault}
 use Rattle.params_check.specs.declared.fault.CheckError.{CheckError}
 use Rattle.params_check.specs.declared.fault.CheckError.TheVariants.{Param, Memory}
-use Rattle.params_check.specs.declared.shape.Shape.{Shape}
 use Rattle.params_check.specs.declared.value_walk.GroupValues.{GroupValues}
 use Rattle.params_check.specs.Firsts.{first_fault}
-use Rattle.params_check.specs.Limits.{KeepsForm, KeepsShape, IsParameters}
+use Rattle.params_check.specs.Limits.{IsParameters}
 use Rattle.params_check.specs.Parameters.{Parameters, values_of}
 use Rattle.params_check.specs.ReadValues.{parameters_with}
 use Rattle.params_check.specs.Walks.{first_walk, second_walk, third_walk, all_faults, unless_fault, parameters_of, IsRefused}
@@ -78,11 +76,6 @@ module _ (groups : List Group) where
 
       pub walked-limits : IsTree groups → IsParameters (values_of groups)
       walked-limits limits = parameters_keep_limits groups limits no_fault
-
--- shapes of known fields keep their own limits
-pub shapes-kept : (fields : ℕ) (shapes : List Shape) → All (KeepsShape fields) shapes → All (λ s. KeepsForm s.form × (s.amount ≤ 2 ^ 40)) shapes
-shapes-kept fields shapes kept =
-    All-weaker (KeepsShape fields) (λ s. KeepsForm s.form × (s.amount ≤ 2 ^ 40)) (λ s one. (one.form, one.amount)) shapes kept
 
 -- what a step answers is why the tree is refused
 pub refused-err : {A : Type 0} (groups : List Group) (r : Result A CheckError) (e : CheckError) → IsErrAnd r (λ error. error ≡ e) → IsRefused groups e

@@ -1,9 +1,8 @@
 //! The third walk: what several values must meet together.
-ghost use Rattle.std.specs.Prelude.{◌≡◌, ◌+◌, ◌*◌, ◌^◌, ◌≤◌, ◌||◌, pos, [], All, length, max, nat_abs, nat_lt, slice_index_or};
+ghost use Rattle.std.specs.Prelude.{◌≡◌, ◌+◌, ◌*◌, ◌^◌, ◌≤◌, ◌||◌, pos, [], length, max, nat_abs, nat_lt, slice_index_or};
 ghost use Rattle.std.specs.List.{flat_map, range_with_len};
 ghost use Rattle.std.specs.Result.{result_err};
 ghost use Rattle.params_check.specs.Firsts.{first_fault};
-ghost use Rattle.params_check.specs.Limits.{KeepsForm};
 ghost use Rattle.params_check.specs.ReadValues.{parameters_with};
 ghost use Rattle.params_check.specs.Walks.{fault, third_walk, total_faults};
 
@@ -27,7 +26,6 @@ const GREATEST_TOTAL: u128 = 1_099_511_627_776;
 pub(crate) fn walk_together(values: &GroupValues) -> Result<(), ParamFault>
     requires block { values.now.mesh.block ≤ 16 }
     requires few_blocks { values.now.mesh.max_blocks ≤ 8192 }
-    requires shapes { All (λ s. KeepsForm s.form × (s.amount ≤ 2 ^ 40)) values.now.shapes }
     ensures fault { first_fault (third_walk (parameters_with values.now [])) ≡ result_err result }
 {
     if is_too_large(&values.mesh, values.fields.items().len()) {
@@ -105,7 +103,6 @@ fn speed(velocity: [i32; 3]) -> u64
 /// The third walk over the totals of all fields.
 fn walk_totals(values: &GroupValues) -> Result<(), ParamFault>
     requires block { values.now.mesh.block ≤ 16 }
-    requires shapes { All (λ s. KeepsForm s.form × (s.amount ≤ 2 ^ 40)) values.now.shapes }
     ensures fault { first_fault (flat_map (total_faults (parameters_with values.now [])) (range_with_len 0 (length values.now.fields))) ≡ result_err result }
 {
     for (i, field_name) in values.fields.items().iter().enumerate() {
@@ -117,7 +114,6 @@ fn walk_totals(values: &GroupValues) -> Result<(), ParamFault>
 /// The third walk over the total of a field.
 fn walk_total(values: &GroupValues, field: u8, field_name: &Name) -> Result<(), ParamFault>
     requires block { values.now.mesh.block ≤ 16 }
-    requires shapes { All (λ s. KeepsForm s.form × (s.amount ≤ 2 ^ 40)) values.now.shapes }
     requires name { field_name.now ≡ slice_index_or values.now.fields field [] }
     ensures fault { first_fault (total_faults (parameters_with values.now []) field) ≡ result_err result }
 {

@@ -1,7 +1,6 @@
 //! The initial totals of fields.
-ghost use Rattle.std.specs.Prelude.{◌≡◌, ◌*◌, ◌^◌, ◌≤◌, length, All};
+ghost use Rattle.std.specs.Prelude.{◌≡◌, ◌*◌, ◌^◌, ◌≤◌, length};
 ghost use Rattle.params_check.specs.Amounts.{initial_total};
-ghost use Rattle.params_check.specs.Limits.{KeepsForm};
 
 use crate::cell_counts::cell_count;
 use crate::shape::Shape;
@@ -14,7 +13,6 @@ mod tests;
 pub(crate) fn initial_total(domain: &Domain, block: u16, shapes: &[Shape], field: u8) -> u128
     requires block { block ≤ 16 }
     requires few { length shapes.now ≤ 16 }
-    requires limits { All (λ s. KeepsForm s.form × (s.amount ≤ 2 ^ 40)) shapes.now }
     ensures total { result ≡ initial_total domain.now block shapes.now field }
 {
     let [trees_x, trees_y, trees_z] = domain.array();

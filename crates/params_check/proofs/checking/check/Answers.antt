@@ -1,5 +1,5 @@
 -- Each walk answers its first fault, where no walk before has one; else the values are the tree's.
-use Rattle.std.proofs.Common.{◌≡◌, ◌∙◌, length, sym, ap, subst, Ok}
+use Rattle.std.proofs.Common.{◌≡◌, ◌∙◌, sym, ap, subst, Ok}
 use Rattle.params_check.specs.declared.fault.CheckError.TheVariants.{Param}
 use Rattle.params_check.specs.declared.value_walk.GroupValues.{GroupValues}
 use Rattle.params_check.specs.Firsts.{first_fault}
@@ -7,7 +7,7 @@ use Rattle.params_check.specs.Limits.{IsParameters}
 use Rattle.params_check.specs.Walks.{first_walk, second_walk}
 use Rattle.params_check.proofs.FirstFaults.{no_first_fault}
 use Rattle.params_check.proofs.SecondWalk.{first-of}
-use Rattle.params_check.proofs.Refusals.{walked-first, walked-second, walked-third, walked-accepted, walked-limits, shapes-kept, refused-err, third-read, ranges-read, all-read}
+use Rattle.params_check.proofs.Refusals.{walked-first, walked-second, walked-third, walked-accepted, walked-limits, refused-err, third-read, ranges-read, all-read}
 use Rattle.params_check.proofs.checking.check.Goals as goal
 
 pub returns-in_err-walk_names-clause-fault : goal.returns-in_err-walk_names-clause-fault
@@ -44,14 +44,6 @@ walk_together-requires-clause-few_blocks c =
     let second = rw c.items-groups.ensures.items at c.in_ok-values.ensures.fault in
     let are = rw c.items-groups.ensures.items at c.in_ok-values.ensures.values in
     (ranges-read c.args.tree.now c.in_ok-values.values are c.items-groups.ensures.limits first second).most_blocks
-
-pub walk_together-requires-clause-shapes : goal.walk_together-requires-clause-shapes
-unfolding first_walk
-walk_together-requires-clause-shapes c =
-    let first = rw c.items-groups.ensures.items at c.in_ok-walk_names.ensures.fault in
-    let second = rw c.items-groups.ensures.items at c.in_ok-values.ensures.fault in
-    let are = rw c.items-groups.ensures.items at c.in_ok-values.ensures.values in
-    shapes-kept (length c.in_ok-values.values.fields) c.in_ok-values.values.shapes (ranges-read c.args.tree.now c.in_ok-values.values are c.items-groups.ensures.limits first second).shapes
 
 pub returns-in_err-walk_together-clause-fault : goal.returns-in_err-walk_together-clause-fault
 unfolding first_walk
