@@ -1,0 +1,6 @@
+pub mod Contents
+pub mod Words
+pub mod Views
+pub mod Hands
+pub mod Told
+pub mod BoardRule
