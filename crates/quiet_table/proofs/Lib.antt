@@ -5,3 +5,7 @@ pub mod Legal
 pub mod Claims
 pub mod Dealt
 pub mod Openings
+pub mod HandsOut
+pub mod Cancelling
+pub mod Giving
+pub mod Releases

@@ -4,3 +4,4 @@ pub mod Views
 pub mod Hands
 pub mod Told
 pub mod BoardRule
+pub mod Takes

@@ -36,4 +36,6 @@ pub struct BoardSeat<C: LegalLoad, B: Load<Rest = C::Rest, Parcel = C::Parcel>> 
     ghost carried: { place.me.1 ≡ carried_of place.me.0.hands },
 }
 
+mod cells;
 mod making;
+mod slots;

@@ -13,7 +13,9 @@ mod load;
 mod picks;
 mod plays;
 mod rule;
+mod take;
 mod view;
 
 pub use board::{Board, BoardSeat};
 pub use load::{LegalLoad, Load};
+pub use take::Take;
