@@ -9,3 +9,5 @@ pub mod HandsOut
 pub mod Cancelling
 pub mod Giving
 pub mod Releases
+pub mod SentTurns
+pub mod NumberSteps

@@ -37,5 +37,6 @@ pub struct BoardSeat<C: LegalLoad, B: Load<Rest = C::Rest, Parcel = C::Parcel>> 
 }
 
 mod cells;
+mod counting;
 mod making;
 mod slots;
