@@ -11,3 +11,4 @@ pub mod Giving
 pub mod Releases
 pub mod SentTurns
 pub mod NumberSteps
+pub mod WaveLoops

@@ -5,3 +5,4 @@ pub mod Hands
 pub mod Told
 pub mod BoardRule
 pub mod Takes
+pub mod Waved

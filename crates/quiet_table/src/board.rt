@@ -40,3 +40,4 @@ mod cells;
 mod counting;
 mod making;
 mod slots;
+mod waves;

@@ -15,7 +15,9 @@ mod plays;
 mod rule;
 mod take;
 mod view;
+mod wave;
 
 pub use board::{Board, BoardSeat};
 pub use load::{LegalLoad, Load};
 pub use take::Take;
+pub use wave::{Verdict, Wave};
