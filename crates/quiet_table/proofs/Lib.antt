@@ -12,3 +12,8 @@ pub mod Releases
 pub mod SentTurns
 pub mod NumberSteps
 pub mod WaveLoops
+pub mod Joins
+pub mod Emptying
+pub mod Closing
+pub mod Remaining
+pub mod Emptiness

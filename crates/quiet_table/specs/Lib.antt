@@ -4,5 +4,7 @@ pub mod Views
 pub mod Hands
 pub mod Told
 pub mod BoardRule
+pub mod Shut
+pub mod Quiet
 pub mod Takes
 pub mod Waved

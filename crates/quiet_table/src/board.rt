@@ -37,7 +37,10 @@ pub struct BoardSeat<C: LegalLoad, B: Load<Rest = C::Rest, Parcel = C::Parcel>> 
 }
 
 mod cells;
+mod closing;
 mod counting;
 mod making;
 mod slots;
 mod waves;
+
+pub use closing::Remains;

@@ -9,6 +9,7 @@
 
 mod board;
 mod item;
+mod laws;
 mod load;
 mod picks;
 mod plays;
@@ -17,7 +18,8 @@ mod take;
 mod view;
 mod wave;
 
-pub use board::{Board, BoardSeat};
+pub use board::{Board, BoardSeat, Remains};
+pub use laws::quiet_means_empty;
 pub use load::{LegalLoad, Load};
 pub use take::Take;
 pub use wave::{Verdict, Wave};
