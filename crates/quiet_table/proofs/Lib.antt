@@ -17,3 +17,4 @@ pub mod Emptying
 pub mod Closing
 pub mod Remaining
 pub mod Emptiness
+pub mod Trading

@@ -8,3 +8,4 @@ pub mod Shut
 pub mod Quiet
 pub mod Takes
 pub mod Waved
+pub mod Lemmas

@@ -13,9 +13,15 @@ mod laws;
 mod load;
 mod picks;
 mod plays;
+#[cfg(test)]
+mod purses;
 mod rule;
 mod take;
+#[cfg(test)]
+mod tests;
 mod view;
+#[cfg(test)]
+mod visits;
 mod wave;
 
 pub use board::{Board, BoardSeat, Remains};
