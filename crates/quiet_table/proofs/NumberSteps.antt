@@ -116,16 +116,16 @@ module _ {C B R E O : Type 0} (contents : Item C B → Contents R E) (legal : Li
         (refl, small),
       )
 
-  -- a whole wave with equal sums may declare
+  -- a full wave with equal sums may declare
   pub declares : (id : ℕ) (me : Me S (View R E)) → length me.0.first ≡ shards → length me.0.second ≡ shards → adds me.0.first ≡ adds me.0.second → Allows Rule (2 * shards) id me (4 * shards) (λ n. either (eqb n 0) 1 n) (declare_told (step (2 * shards) (4 * shards) 0 1 none) me)
-  declares id me whole_one whole_two equal s r deep at _ =
+  declares id me full_one full_two equal s r deep at _ =
       let v : View R E = me.0 in
       let k : ℕ = 4 * shards in
       let n : ℕ = get_or s.words k 0 in
       let a = r.counts.waves id v at in
       let none_later : shards - length v.second ≡ 0 = omega arith in
       let reached : reach shards s.words v ≡ adds v.second = rw none_later (omega arith) in
-      let zeros = (a.two whole_one).1 (equal ∙ sym reached) in
+      let zeros = (a.two full_one).1 (equal ∙ sym reached) in
       let some_shard = r.some_shard in
       dite (ℕ_discrete n 0)
       (λ hit. let w : View R E = record v { seen = 1 } in (
@@ -206,4 +206,4 @@ module _ {C B R E O : Type 0} (contents : Item C B → Contents R E) (legal : Li
   reads_second_at sh slots id me k same e within last = rw (e, same, last) (reads_second id me (subst (λ z. z < shards) last (subst (λ z. k < z) same within)))
 
   pub declares_at : (sh slots id : ℕ) (me : Me S (View R E)) → sh ≡ shards → slots ≡ 2 * sh → length me.0.first ≡ sh → length me.0.second ≡ sh → adds me.0.first ≡ adds me.0.second → Allows Rule slots id me (4 * sh) (λ n. either (eqb n 0) 1 n) (declare_told (step slots (4 * sh) 0 1 none) me)
-  declares_at sh slots id me same e whole_one whole_two equal = rw (e, same) (declares id me (whole_one ∙ same) (whole_two ∙ same) equal)
+  declares_at sh slots id me same e full_one full_two equal = rw (e, same) (declares id me (full_one ∙ same) (full_two ∙ same) equal)

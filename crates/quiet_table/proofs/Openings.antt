@@ -180,8 +180,8 @@ lot_within [] k h = absurd (omega arith)
 lot_within (es ∷ ess) zero h = let a = length-append es (pool ess) in omega arith
 lot_within (es ∷ ess) (suc k) h = let a = length-append es (pool ess) in let r = lot_within ess k (omega arith) in omega arith
 
-pub take_whole : {X : Type 0} (xs : List X) (k : ℕ) → length xs ≤ k → take k xs ≡ xs
-take_whole [] zero h = refl
-take_whole [] (suc k) h = refl
-take_whole (x ∷ xs) zero h = absurd (omega arith)
-take_whole (x ∷ xs) (suc k) h = ap (λ l. x ∷ l) (take_whole xs k (omega arith))
+pub take_all : {X : Type 0} (xs : List X) (k : ℕ) → length xs ≤ k → take k xs ≡ xs
+take_all [] zero h = refl
+take_all [] (suc k) h = refl
+take_all (x ∷ xs) zero h = absurd (omega arith)
+take_all (x ∷ xs) (suc k) h = ap (λ l. x ∷ l) (take_all xs k (omega arith))

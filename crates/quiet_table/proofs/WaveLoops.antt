@@ -27,13 +27,13 @@ module _ {S R E : Type 0} where
       let F : List ℕ = m.0.first ++ n ∷ [] in
       let all : take k m.0.first ++ n ∷ [] ≡ F = ap (λ l. l ++ n ∷ []) (take_all m.0.first k long) in
       let q : m'.0.first ≡ F = ap (λ (z : Me S (View R E)). z.0.first) now ∙ all in
-      let whole : m' ≡ (record v { first = F; second = [] }, out) = now ∙ (ap (λ (l : List ℕ). (record m.0 { first = l; second = [] }, m.1)) all ∙ ap (λ (z : Me S (View R E)). (record z.0 { first = F; second = [] }, z.1)) told) in
-      (whole ∙ ap (λ (l : List ℕ). (record v { first = l; second = [] }, out)) (sym q), ap (λ (l : List ℕ). length l) q ∙ (length-append m.0.first (n ∷ []) ∙ (let e : length m.0.first + 1 ≡ k + 1 = omega arith in e)), (let a = adds_more m.0.first n in let b = ap adds q in omega arith))
+      let full : m' ≡ (record v { first = F; second = [] }, out) = now ∙ (ap (λ (l : List ℕ). (record m.0 { first = l; second = [] }, m.1)) all ∙ ap (λ (z : Me S (View R E)). (record z.0 { first = F; second = [] }, z.1)) told) in
+      (full ∙ ap (λ (l : List ℕ). (record v { first = l; second = [] }, out)) (sym q), ap (λ (l : List ℕ). length l) q ∙ (length-append m.0.first (n ∷ []) ∙ (let e : length m.0.first + 1 ≡ k + 1 = omega arith in e)), (let a = adds_more m.0.first n in let b = ap adds q in omega arith))
 
   pub second_more : (v : View R E) (out : List (ℕ × S)) (m m' : Me S (View R E)) (k n sent : ℕ) → m ≡ (record v { second = m.0.second }, out) → length m.0.second ≡ k → sent ≡ adds m.0.second → m' ≡ (record m.0 { second = m.0.second ++ n ∷ [] }, m.1)
       → (m' ≡ (record v { second = m'.0.second }, out)) × (length m'.0.second ≡ k + 1) × (sent + n ≡ adds m'.0.second)
   second_more v out m m' k n sent told long sum now =
       let F : List ℕ = m.0.second ++ n ∷ [] in
       let q : m'.0.second ≡ F = ap (λ (z : Me S (View R E)). z.0.second) now in
-      let whole : m' ≡ (record v { second = F }, out) = now ∙ ap (λ (z : Me S (View R E)). (record z.0 { second = F }, z.1)) told in
-      (whole ∙ ap (λ (l : List ℕ). (record v { second = l }, out)) (sym q), ap (λ (l : List ℕ). length l) q ∙ (length-append m.0.second (n ∷ []) ∙ (let e : length m.0.second + 1 ≡ k + 1 = omega arith in e)), (let a = adds_more m.0.second n in let b = ap adds q in omega arith))
+      let full : m' ≡ (record v { second = F }, out) = now ∙ ap (λ (z : Me S (View R E)). (record z.0 { second = F }, z.1)) told in
+      (full ∙ ap (λ (l : List ℕ). (record v { second = l }, out)) (sym q), ap (λ (l : List ℕ). length l) q ∙ (length-append m.0.second (n ∷ []) ∙ (let e : length m.0.second + 1 ≡ k + 1 = omega arith in e)), (let a = adds_more m.0.second n in let b = ap adds q in omega arith))

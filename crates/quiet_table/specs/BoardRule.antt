@@ -47,7 +47,7 @@ module _ {R E : Type 0} where
   abbrev pub reach : ℕ → List ℕ → View R E → ℕ
   reach shards words v = adds v.second + span words (2 * shards + length v.second) (shards - length v.second)
 
-  -- What one seat has read. In an open first wave each number is at most that handled word now. With a whole first
+  -- What one seat has read. In an open first wave each number is at most that handled word now. With a full first
   -- wave its sum is at most the reach of the second; where they are equal, nothing is in flight or uncounted. The
   -- second wave's numbers are at most the sent words now. A verdict once seen is the present one.
   pub record Waves (shards : ℕ) (words : List ℕ) (flight open_count : ℕ) (v : View R E) : Type 0 where
@@ -70,7 +70,7 @@ module _ {C B R E : Type 0} (contents : Item C B → Contents R E) where
   abbrev pub AtHome : ℕ → State (Option (Item C B)) (View R E) → List (Contents R E) → ℕ → Type 0
   AtHome shards s settled k = (i : Item C B) × (slice_index s.words k ≡ 0) × (get_elem? s.homes k ≡ some (some (Some i))) × (is_cell i ≡ ltb (2 * k) (2 * shards)) × (get_elem? settled k ≡ some (contents i))
 
-  -- The whole rule. A slot is at home or out with one live seat, whose hand has its settled contents; no seat holds a
+  -- The rule. A slot is at home or out with one live seat, whose hand has its settled contents; no seat holds a
   -- slot twice. The settled contents are legal with what was handled or is uncounted, and their origin is that of the
   -- first contents. The verdict is Stopped only where a seat stopped.
   pub record BoardRule {O : Type 0} (legal : List R → List E → ℕ → Type 0) (origin : List R → O) (shards : ℕ) (from : O) (s : State (Option (Item C B)) (View R E)) : Type 0 where

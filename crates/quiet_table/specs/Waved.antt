@@ -7,7 +7,7 @@ use Rattle.quiet_table.specs.declared.wave.Wave.TheVariants.{Quiet, NotYet, Stop
 use Rattle.quiet_table.specs.declared.wave.Verdict.{Verdict}
 use Rattle.quiet_table.specs.declared.wave.Verdict.TheVariants as verdicts
 
--- The view after a whole wave: both have a number of each shard. NotYet has the two sums, which differ; else they are
+-- The view after a full wave: both have a number of each shard. NotYet has the two sums, which differ; else they are
 -- equal, and the seat has seen the verdict.
 abbrev pub Waved : {R E : Type 0} → ℕ → View R E → Wave → Type 0
 Waved shards v Quiet = (length v.first ≡ shards) × (length v.second ≡ shards) × (adds v.first ≡ adds v.second) × (v.seen ≡ 1)

@@ -18,7 +18,7 @@ pub trait Load: Drop {
         ensures count { result ≡ length (parcels self.now) };
 }
 
-/// A load that says which contents of a whole board are legal, and what one count may settle.
+/// A load that says which contents of all of a board are legal, and what one count may settle.
 ///
 /// `legal` reads what all slots are but for their envelopes, the list of all envelopes in any order, and the settled
 /// total, which is what was handled and counted or is still uncounted. `turn` leads from the contents of one cell to its

@@ -44,7 +44,7 @@ impl<C: LegalLoad, B: Load<Rest = C::Rest, Parcel = C::Parcel>> Board<C, B> {
         requires some_shard { 0 < self.now.shards }
         ensures own { (place.new.table_id ≡ place.old.table_id) × (place.new.id ≡ place.old.id) }
         ensures told { place.new.me ≡ (record place.old.me.0 { first = place.new.me.0.first; second = [] }, place.old.me.1) }
-        ensures whole { (length place.new.me.0.first ≡ self.now.shards) × (result ≡ adds place.new.me.0.first) }
+        ensures full { (length place.new.me.0.first ≡ self.now.shards) × (result ≡ adds place.new.me.0.first) }
     {
         let mut handled = self.read_first(place, 0);
         for k in 1..self.shards {
@@ -59,7 +59,7 @@ impl<C: LegalLoad, B: Load<Rest = C::Rest, Parcel = C::Parcel>> Board<C, B> {
         requires none { place.old.me.0.second ≡ [] }
         ensures own { (place.new.table_id ≡ place.old.table_id) × (place.new.id ≡ place.old.id) }
         ensures told { place.new.me ≡ (record place.old.me.0 { second = place.new.me.0.second }, place.old.me.1) }
-        ensures whole { (length place.new.me.0.second ≡ self.now.shards) × (result ≡ adds place.new.me.0.second) }
+        ensures full { (length place.new.me.0.second ≡ self.now.shards) × (result ≡ adds place.new.me.0.second) }
     {
         let mut sent = 0;
         for k in 0..self.shards {
@@ -71,7 +71,7 @@ impl<C: LegalLoad, B: Load<Rest = C::Rest, Parcel = C::Parcel>> Board<C, B> {
     // Tries once to set the verdict to Quiet, and answers the word that it found.
     fn declare(&self, place: &mut Place<C, B>) -> u64
         requires own { place.old.table_id ≡ self.now.table.shared.table_id }
-        requires whole { (length place.old.me.0.first ≡ self.now.shards) × (length place.old.me.0.second ≡ self.now.shards) }
+        requires full { (length place.old.me.0.first ≡ self.now.shards) × (length place.old.me.0.second ≡ self.now.shards) }
         requires equal { adds place.old.me.0.first ≡ adds place.old.me.0.second }
         ensures own { (place.new.table_id ≡ place.old.table_id) × (place.new.id ≡ place.old.id) }
         ensures low { result ≤ 2 }

@@ -1,7 +1,7 @@
 use Rattle.std.proofs.Common.{rules, ◌≡◌, ◌<◌, ◌+◌, ◌*◌, ◌++◌, [], map, take, length, set, get_or, replicate, arith, sym, ap, ◌∙◌, subst}
 use Rattle.quiet_table.specs.Contents.{pool}
 use Rattle.quiet_table.specs.Words.{FirstWords}
-use Rattle.quiet_table.proofs.Openings.{zero_words, zeros_at, words_more, lots_more, lots_both, lot_at, lot_within, take_whole}
+use Rattle.quiet_table.proofs.Openings.{zero_words, zeros_at, words_more, lots_more, lots_both, lot_at, lot_within, take_all}
 use Rattle.std.proofs.lemmas.Grind.{common_steps}
 use Rattle.std.proofs.Common.{get_or-set_other}
 use lib.ListN.{length-map}
@@ -80,8 +80,8 @@ returns g c =
     let lg = length-map bs g.B.Load.parcels in
     let past = c.loop-k-test.false in
     let same = c.requires.counts.0 in
-    let e1 = take_whole fs k (omega arith) in
-    let e2 = take_whole gs k (omega arith) in
+    let e1 = take_all fs k (omega arith) in
+    let e2 = take_all gs k (omega arith) in
     let all = lots_both fs gs in
     let total : length (pool (take k fs)) + length (pool (take k gs)) ≡ length (pool (fs ++ gs)) = (let a = ap (λ l. length (pool l)) e1 in let b = ap (λ l. length (pool l)) e2 in omega arith) in
     subst (λ z. FirstWords n c.loop-k.words.items z) total c.loop-k.invariant.words
