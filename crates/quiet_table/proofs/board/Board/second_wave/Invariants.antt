@@ -1,0 +1,12 @@
+use Rattle.std.proofs.Common.{◌≡◌, length}
+use Rattle.quiet_table.specs.Words.{adds}
+use Rattle.quiet_table.proofs.board.Board.second_wave.Given as goal
+
+abbrev pub invariant-loop-k : goal.invariant-loop-k
+invariant-loop-k g l = record {
+  own : l.place.table_id ≡ l.fn.place.table_id;
+  id : l.place.id ≡ l.fn.place.id;
+  told : l.place.me ≡ (record l.fn.place.me.0 { second = l.place.me.0.second }, l.fn.place.me.1);
+  long : length l.place.me.0.second ≡ l.k;
+  sum : l.sent ≡ adds l.place.me.0.second;
+}

@@ -1,0 +1,11 @@
+pub mod Contents
+pub mod Words
+pub mod Views
+pub mod Hands
+pub mod Told
+pub mod BoardRule
+pub mod Shut
+pub mod Quiet
+pub mod Takes
+pub mod Waved
+pub mod Lemmas
