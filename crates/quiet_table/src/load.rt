@@ -1,5 +1,5 @@
 //! What a board's values have to say of themselves.
-ghost use Rattle.std.specs.Prelude.{◌≡◌, ℕ, ◌+◌, ◌^◌, ◌<◌, List, [], ◌∷◌, ◌++◌, length, IsPermutation, slice_get, slice_set, Some};
+ghost use Rattle.std.specs.Prelude.{◌≡◌, ℕ, ◌+◌, ◌^◌, ◌<◌, List, [], ◌∷◌, ◌++◌, length, IsPermutation, IsTrue, ◌↔◌, slice_get, slice_set, Some};
 
 /// A value that holds envelopes. Its contents are plain data in two halves: the envelopes, and all but them.
 pub trait Load: Drop {
@@ -32,6 +32,13 @@ pub trait LegalLoad: Load {
     ghost turn: { Self.Rest → List Self.Parcel → ℕ → ℕ → Self.Rest → List Self.Parcel → Type 0 };
 
     ghost origin: { List Self.Rest → Self.Origin };
+
+    /// Whether the value holds no envelope.
+    fn is_idle(&self) -> bool
+        ensures none { IsTrue result ↔ (length (Self.parcels self.now) ≡ 0) }
+    {
+        self.load() == 0
+    }
 
     ghost balanced: { (r : Self.Rest) (es : List Self.Parcel) (sent handled : ℕ) (r' : Self.Rest) (es' : List Self.Parcel) → turn r es sent handled r' es' → length es + sent ≡ length es' + handled };
 

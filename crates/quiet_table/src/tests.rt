@@ -3,6 +3,7 @@ ghost use Rattle.std.specs.Prelude.{◌≡◌, ◌≤◌, ◌+◌, ℕ, [], ◌�
 ghost use Rattle.quiet_table.specs.Views.{dealt_view};
 
 use crate::board::{Board, Remains};
+use crate::load::LegalLoad;
 use crate::purses::{Purse, Tray};
 use crate::take::Take;
 use crate::visits::{TestBoard, TestSeat, round, visit, work};
@@ -171,7 +172,7 @@ fn two_seats_come_to_quiet(rt: HostRuntime) -> Result<(), Fail> {
     let remains = close_two(rt.alloc(), board, first, second)?;
     assert_eq!(rt; remains.cells.len(), 1);
     assert_eq!(rt; remains.boxes.len(), 1);
-    assert_eq!(rt; remains.cells[0].envelopes.len(), 0);
+    assert!(rt; remains.cells[0].is_idle());
     assert_eq!(rt; remains.handled, 1);
     assert_eq!(rt; remains.verdict, Verdict::Quiet);
     Ok(())

@@ -6,7 +6,7 @@ use Rattle.quiet_table.proofs.board.Board.add_sent.Goals as goal
 pub fetch_add-requires : goal.fetch_add-requires
 fetch_add-requires g c =
     let b = c.args.self.now in
-    let law = g.C.LegalLoad in
+    let law = g.met.C.LegalLoad in
     let half : length b.table.shared.key.value.items / 2 ≡ b.shards = b.sized.2 in (
       c.requires.own,
       omega arith,

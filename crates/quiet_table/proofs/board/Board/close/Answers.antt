@@ -7,7 +7,7 @@ use Rattle.quiet_table.proofs.board.Board.close.Goals as goal
 pub empty-requires-clause-words : goal.empty-requires-clause-words
 empty-requires-clause-words g c =
     let shut = c.shut-closed.ensures.shut in
-    (shut.wide, (let s = g.C.LegalLoad.bounded _ _ _ shut.legal_now in omega arith), shut.verdict)
+    (shut.wide, (let s = g.met.C.LegalLoad.bounded _ _ _ shut.legal_now in omega arith), shut.verdict)
 
 pub empty-requires-clause-each : goal.empty-requires-clause-each
 empty-requires-clause-each g c = c.shut-closed.ensures.shut.each

@@ -20,6 +20,6 @@ store-requires g c =
     let slots : b.table.shared.table_id.slots ≡ 2 * (length b.table.shared.key.value.items / 2) = b.sized.1 ∙ ap (λ z. 2 * z) (sym b.sized.2) in (
       did.0 ∙ c.requires.own,
       omega arith,
-      releases_at (contents_of g.C.Load.rest g.C.Load.parcels g.B.Load.rest g.B.Load.parcels) g.C.LegalLoad.legal g.C.LegalLoad.origin g.C.LegalLoad.any_order (length b.table.shared.key.value.items / 2) _ _ _ _ _ c.args.item _ slots (ap (λ m. m.1) did.3) (subst (FirstIs c.args.slot) (sym same) c.requires.held) c.requires.kind
+      releases_at (contents_of g.C.Load.rest g.C.Load.parcels g.B.Load.rest g.B.Load.parcels) g.C.LegalLoad.legal g.C.LegalLoad.origin g.met.C.LegalLoad.any_order (length b.table.shared.key.value.items / 2) _ _ _ _ _ c.args.item _ slots (ap (λ m. m.1) did.3) (subst (FirstIs c.args.slot) (sym same) c.requires.held) c.requires.kind
           (subst (λ hs. MayGive hs (contents_of g.C.Load.rest g.C.Load.parcels g.B.Load.rest g.B.Load.parcels c.args.item)) (sym same) c.requires.may),
     )

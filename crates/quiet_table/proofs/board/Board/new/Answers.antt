@@ -19,4 +19,4 @@ returns-in-Ok-clause-origin g c =
     ∙ (ap (λ l. g.C.LegalLoad.origin (map rest_of (opening_contents contents l))) c.in_ok-slots.ensures ∙ ap g.C.LegalLoad.origin (rests_laid contents c.args.cells.items c.args.boxes.items)))
 
 pub first_words-requires-clause-small : goal.first_words-requires-clause-small
-first_words-requires-clause-small g c = let b = g.C.LegalLoad.bounded _ _ _ c.requires.legal in omega arith
+first_words-requires-clause-small g c = let b = g.met.C.LegalLoad.bounded _ _ _ c.requires.legal in omega arith

@@ -9,6 +9,6 @@ load-requires g c =
     let half : length b.table.shared.key.value.items / 2 ≡ b.shards = b.sized.2 in (
       c.requires.own,
       omega arith,
-      reads_second_at (contents_of g.C.Load.rest g.C.Load.parcels g.B.Load.rest g.B.Load.parcels) g.C.LegalLoad.legal g.C.LegalLoad.origin g.C.LegalLoad.bounded (length b.table.shared.key.value.items / 2) _
+      reads_second_at (contents_of g.C.Load.rest g.C.Load.parcels g.B.Load.rest g.B.Load.parcels) g.C.LegalLoad.legal g.C.LegalLoad.origin g.met.C.LegalLoad.bounded (length b.table.shared.key.value.items / 2) _
           b.shards b.table.shared.table_id.slots c.args.place.now.id c.args.place.now.me c.args.k (sym half) b.sized.1 c.requires.within c.requires.last,
     )

@@ -11,7 +11,7 @@ compare_exchange-turn-requires g c =
     let slots : b.table.shared.table_id.slots ≡ 2 * (length b.table.shared.key.value.items / 2) = b.sized.1 ∙ ap (λ z. 2 * z) (sym b.sized.2) in (
       c.requires.own,
       omega arith,
-      claims_at (contents_of g.C.Load.rest g.C.Load.parcels g.B.Load.rest g.B.Load.parcels) g.C.LegalLoad.legal g.C.LegalLoad.origin (length b.table.shared.key.value.items / 2) _ g.L.OriginPick.origin c.requires.origin g.C.LegalLoad.any_order _ _ _ _ _ slots (ap (λ z. z + 1) (sym s.numbered.0)) c.requires.within s.live c.requires.free,
+      claims_at (contents_of g.C.Load.rest g.C.Load.parcels g.B.Load.rest g.B.Load.parcels) g.C.LegalLoad.legal g.C.LegalLoad.origin (length b.table.shared.key.value.items / 2) _ g.L.OriginPick.origin c.requires.origin g.met.C.LegalLoad.any_order _ _ _ _ _ slots (ap (λ z. z + 1) (sym s.numbered.0)) c.requires.within s.live c.requires.free,
     )
 
 pub exchange-requires : goal.exchange-requires
