@@ -1,3 +1,4 @@
 -- What contracts of the output cite. `Lemmas` is for the proofs alone.
 pub mod Lines
+pub mod FieldFiles
 pub mod Lemmas
