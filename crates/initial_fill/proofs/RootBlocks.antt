@@ -6,8 +6,7 @@ use Rattle.std.proofs.lemmas.List.FromFn.{length-map-range_with_len}
 use Rattle.std.proofs.lemmas.Simd.{map-map}
 use Rattle.block_index.specs.Places.{Cube}
 use Rattle.leaf_set.specs.RootMesh.{root_mesh}
-use Rattle.params_check.specs.Limits.{IsParameters}
-use Rattle.params_check.specs.Parameters.{Parameters}
+use Rattle.params_check.specs.Parameters.{IsParameters, Parameters}
 use Rattle.block_fields.specs.Blocks.{BlockState, IsBlock, zero_block}
 use Rattle.block_fields.specs.BlockStates.{AreBlocksOf, IsBlockOf, state_of}
 use Rattle.block_fields.specs.Cells.{cells_of}

@@ -3,9 +3,7 @@
 ghost use Rattle.std.specs.Prelude.{◌≡◌, ℕ, ◌*◌, ◌^◌, ◌<◌, ◌≤◌, length};
 ghost use Rattle.block_fields.specs.States.{IsState, total};
 ghost use Rattle.params_check.specs.Amounts.{root_amount};
-ghost use Rattle.params_check.specs.Limits.{IsParameters};
-ghost use Rattle.params_check.specs.Parameters.{Parameters};
-ghost use Rattle.params_check.specs.Walks.{total_of};
+ghost use Rattle.params_check.specs.Parameters.{IsParameters, Parameters, total_of};
 ghost use Rattle.initial_fill.specs.RootBlocks.{initial_state};
 
 /// The total of the first state in each field is what the parameters' shapes put into the domain, at most 2^40, and no

@@ -15,6 +15,11 @@ phase_line phase leaves = codes "phase " ++ decimal phase ++ codes " leaves " ++
 unfoldable pub cycle_line : ℕ → ℕ → List ℕ
 cycle_line cycle leaves = codes "cycle " ++ decimal cycle ++ codes " leaves " ++ decimal leaves ++ codes "\n"
 
+-- a field after a cycle: its name, its total, and what left the domain in this cycle and in all
+unfoldable pub field_line : List ℕ → ℕ → ℕ → ℕ → List ℕ
+field_line name total out gone =
+    codes "field " ++ name ++ codes " total " ++ decimal total ++ codes " out " ++ decimal out ++ codes " gone " ++ decimal gone ++ codes "\n"
+
 -- how many leaves a mesh has
 unfoldable pub count_line : ℕ → List ℕ
 count_line leaves = codes "mesh " ++ decimal leaves ++ codes "\n"

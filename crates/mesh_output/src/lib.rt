@@ -12,4 +12,4 @@ mod report;
 
 pub use fields::write_fields;
 pub use mesh::write_mesh;
-pub use report::{write_cycle_line, write_end, write_header, write_phase_line};
+pub use report::{write_cycle_line, write_end, write_field_line, write_header, write_phase_line};

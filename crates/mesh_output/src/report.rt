@@ -2,9 +2,10 @@
 ghost use Rattle.std.specs.Prelude.{◌≡◌, ◌≤◌, ◌++◌, length, codes, decimal};
 ghost use Rattle.cello_io.specs.Counts.{HasCause};
 ghost use Rattle.cello_io.specs.Writes.{Wrote};
-ghost use Rattle.mesh_output.specs.Lines.{header_line, phase_line, cycle_line, end_line};
+ghost use Rattle.mesh_output.specs.Lines.{header_line, phase_line, cycle_line, field_line, end_line};
 
 use cello_io::{Failed, Sink, write_all};
+use cello_num::Name;
 use text_line::Line;
 
 /// Writes the first line of a report.
@@ -48,6 +49,38 @@ pub fn write_cycle_line<K: Sink>(cycle: u32, leaves: u32, sink: &mut K) -> Resul
     ensures cause { HasCause (K.write_faults sink.old) (K.write_faults sink.new) result }
 {
     write_all(sink, leaves_after(b"cycle ", cycle, leaves).bytes())
+}
+
+/// The name of a field, its total, and what left the domain, in the last cycle and in all.
+#[tactic(auto, unfolding(crate::specs::Lines::field_line))]
+fn field_totals(name: &Name, total: u64, out: u64, gone: u64) -> Line
+    ensures line { result ≡ field_line name.now total out gone }
+{
+    let mut line = Line::of(b"field ");
+    line.push(name.bytes());
+    line.push(b" total ");
+    line.push_number(total);
+    line.push(b" out ");
+    line.push_number(out);
+    line.push(b" gone ");
+    line.push_number(gone);
+    line.push(b"\n");
+    line
+}
+
+/// Writes the line of a field after a cycle: its name, its total, and what left the domain in this cycle and in all.
+pub fn write_field_line<K: Sink>(
+    name: Name,
+    total: u64,
+    out: u64,
+    gone: u64,
+    sink: &mut K,
+) -> Result<(), Failed>
+    ensures wrote { Wrote (K.written sink.old) (K.written sink.new) result (field_line name total out gone) }
+    ensures same_rest { K.rest sink.new ≡ K.rest sink.old }
+    ensures cause { HasCause (K.write_faults sink.old) (K.write_faults sink.new) result }
+{
+    write_all(sink, field_totals(&name, total, out, gone).bytes())
 }
 
 /// Writes the last line of a report.

@@ -9,6 +9,7 @@ use Rattle.block_index.specs.declared.wish.Wish.{Wish}
 use Rattle.block_index.specs.declared.wish.Wish.TheVariants.{Refine}
 use Rattle.leaf_set.specs.LevelRules.{IsLeast}
 use Rattle.leaf_set.specs.NextMesh.{next_mesh}
+use Rattle.block_fields.specs.States.{State}
 use Rattle.params_check.specs.Parameters.{Parameters}
 use Rattle.run_core.specs.declared.fault.RunFault.{RunFault}
 use Rattle.run_core.specs.declared.fault.RunFault.TheVariants.{LevelLimit, BlockLimit, Memory}
@@ -60,10 +61,12 @@ blocks-ended p phase grid mesh wishes shown levels told count limit keeps same s
     blocks-passed p phase mesh levels count limit keeps there (is ∙ ap (λ (ls : List ℕ). length (next_mesh mesh ls)) taken) most many
 
 -- a run that a limit ends
-pub run-limited : (p : Parameters) (round : ℕ) (mesh : List Cube) (leaves : List ℕ) (fault limit : RunFault) → limit ≡ fault → (fault ≡ Memory → ⊥)
-    → (fault ≡ Memory) ⊎ PassesLimit p (round + 1) mesh fault → round < p.rounds → Runs p round (run_state mesh leaves) → RunEnds p (run_state mesh leaves) (Some limit)
-run-limited p round mesh leaves fault limit is other ended below runs =
+pub run-limited : (p : Parameters) (round : ℕ) (state : State) (mesh : List Cube) (leaves : List ℕ) (fault limit : RunFault) → state.leaves ≡ mesh → limit ≡ fault → (fault ≡ Memory → ⊥)
+    → (fault ≡ Memory) ⊎ PassesLimit p (round + 1) mesh fault → round < p.rounds → Runs p round (run_state state leaves)
+    → RunEnds p (run_state state leaves) (Some limit)
+run-limited p round state mesh leaves fault limit same is other ended below runs =
     elim ended [
       | inl memory ↦ absurd (other memory)
-      | inr passes ↦ at_limit round fault below runs (subst (λ k. PassesLimit p k mesh fault) (add-one round) passes) (ap Some is)
+      | inr passes ↦ at_limit round fault below runs
+          (subst (λ k. PassesLimit p k state.leaves fault) (add-one round) (subst (λ (places : List Cube). PassesLimit p (round + 1) places fault) (sym same) passes)) (ap Some is)
     ]

@@ -6,3 +6,5 @@ pub mod PhaseMeshes
 pub mod OneRun
 pub mod RunExists
 pub mod PlainCounts
+pub mod RunTotals
+pub mod Steps

@@ -6,12 +6,14 @@ use Rattle.std.specs.Prelude.{slice_get}
 use Rattle.block_index.specs.Places.{Cube}
 use Rattle.leaf_set.specs.LevelRules.{IsLeast}
 use Rattle.leaf_set.specs.NextMesh.{next_mesh}
+use Rattle.block_fields.specs.Samples.{adapted}
+use Rattle.block_fields.specs.States.{State}
 use Rattle.leaf_set.proofs.Solutions.{IsLeast-one}
 use Rattle.params_check.specs.Parameters.{Parameters}
 use Rattle.run_core.specs.declared.fault.RunFault.{RunFault}
 use Rattle.run_core.specs.declared.fault.RunFault.TheVariants.{LevelLimit, BlockLimit}
 use Rattle.run_core.specs.Wishes.{wishes_in}
-use Rattle.run_core.specs.Runs.{WishesTooFine, Adapts, PassesLimit, of_level, of_blocks, RunState, RunSteps, Runs, RunEnds, after_all, at_limit}
+use Rattle.run_core.specs.Runs.{WishesTooFine, Decides, Adapts, PassesLimit, of_level, of_blocks, RunState, RunSteps, Runs, RunEnds, after_all, at_limit}
 
 -- a state, and the limit that ended the run there, are others'
 record SameEnd (s t : RunState) (a b : Option RunFault) : Type 0 where
@@ -23,17 +25,17 @@ module _ (p : Parameters) where
       → IsLeast p.grid mesh (wishes_in p phase mesh) others → levels ≡ others
   levels-one phase mesh levels others a b = IsLeast-one p.grid mesh (wishes_in p phase mesh) levels others a b
 
-  Adapts-one : (phase : ℕ) (before after other : List Cube) → Adapts p phase before after → Adapts p phase before other → after ≡ other
+  Adapts-one : (phase : ℕ) (before after other : State) → Adapts p phase before after → Adapts p phase before other → after ≡ other
   Adapts-one phase before after other a b =
-      let levels : a.levels ≡ b.levels = levels-one phase before a.levels b.levels a.least b.least in
-      a.next ∙ (ap (next_mesh before) levels ∙ sym b.next)
+      let levels : a.levels ≡ b.levels = levels-one phase before.leaves a.levels b.levels a.decides.least b.decides.least in
+      a.next ∙ (ap (adapted before) levels ∙ sym b.next)
 
   RunSteps-one : (phase : ℕ) (s t u : RunState) → RunSteps p phase s t → RunSteps p phase s u → t ≡ u
   RunSteps-one phase s t u a b =
-      let mesh : t.mesh ≡ u.mesh = Adapts-one phase s.mesh t.mesh u.mesh a.adapts b.adapts in
-      let more : List Cube → List ℕ = λ after. s.leaves ++ length after ∷ [] in
-      let leaves : t.leaves ≡ u.leaves = a.leaves ∙ (ap more mesh ∙ sym b.leaves) in
-      λ i. record { mesh = mesh i; leaves = leaves i }
+      let state : t.state ≡ u.state = Adapts-one phase s.state t.state u.state a.adapts b.adapts in
+      let more : State → List ℕ = λ after. s.leaves ++ length after.leaves ∷ [] in
+      let leaves : t.leaves ≡ u.leaves = a.leaves ∙ (ap more state ∙ sym b.leaves) in
+      λ i. record { state = state i; leaves = leaves i }
 
   pub Runs-one : (phases : ℕ) (t u : RunState) → Runs p phases t → Runs p phases u → t ≡ u
   Runs-one zero t u a b = a ∙ sym b
@@ -61,11 +63,11 @@ module _ (p : Parameters) where
   PassesLimit-one phase mesh f g (of_blocks levels keeps least many e) (of_blocks others kept leasts more h) =
       e ∙ ap (λ (ls : List ℕ). BlockLimit phase (length (next_mesh mesh ls)) p.max_blocks) (levels-one phase mesh levels others least leasts) ∙ sym h
 
-  passes_or_adapts : (phase : ℕ) (mesh after : List Cube) (f : RunFault) → PassesLimit p phase mesh f → Adapts p phase mesh after → ⊥
-  passes_or_adapts phase mesh after f (of_level i c strict a none e) b = b.level_limit strict i c a
-  passes_or_adapts phase mesh after f (of_blocks levels keeps least many e) b =
-      let same : levels ≡ b.levels = levels-one phase mesh levels b.levels least b.least in
-      let counts : length (next_mesh mesh levels) ≡ length after = ap (λ (ls : List ℕ). length (next_mesh mesh ls)) same ∙ ap length (sym b.next) in
+  passes_or_decides : (phase : ℕ) (mesh : List Cube) (others : List ℕ) (f : RunFault) → PassesLimit p phase mesh f → Decides p phase mesh others → ⊥
+  passes_or_decides phase mesh others f (of_level i c strict a none e) b = b.level_limit strict i c a
+  passes_or_decides phase mesh others f (of_blocks levels keeps least many e) b =
+      let same : levels ≡ others = levels-one phase mesh levels others least b.least in
+      let counts : length (next_mesh mesh levels) ≡ length (next_mesh mesh others) = ap (λ (ls : List ℕ). length (next_mesh mesh ls)) same in
       omega (arith, b.block_limit)
 
   -- a run goes through each of its phases
@@ -91,12 +93,12 @@ module _ (p : Parameters) where
       ]
 
   -- a run that goes on past a phase passed no limit there
-  no_limit_within : (all phases : ℕ) (t s : RunState) (f : RunFault) → phases < all → Runs p all t → Runs p phases s → PassesLimit p (suc phases) s.mesh f → ⊥
+  no_limit_within : (all phases : ℕ) (t s : RunState) (f : RunFault) → phases < all → Runs p all t → Runs p phases s → PassesLimit p (suc phases) s.state.leaves f → ⊥
   no_limit_within all phases t s f below runs some passes =
       let h = through all phases t below runs in
       let same : s ≡ h.before = Runs-one phases s h.before some h.runs in
-      let moved : PassesLimit p (suc phases) h.before.mesh f = subst (λ (u : RunState). PassesLimit p (suc phases) u.mesh f) same passes in
-      passes_or_adapts (suc phases) h.before.mesh h.after.mesh f moved h.steps.adapts
+      let moved : PassesLimit p (suc phases) h.before.state.leaves f = subst (λ (u : RunState). PassesLimit p (suc phases) u.state.leaves f) same passes in
+      passes_or_decides (suc phases) h.before.state.leaves h.steps.adapts.levels f moved h.steps.adapts.decides
 
   one_end : (s t : RunState) (a b : Option RunFault) → RunEnds p s a → RunEnds p t b → SameEnd s t a b
   one_end s t a b (after_all runs none) (after_all course last) = record { state = Runs-one p.rounds s t runs course; limit = none ∙ sym last }
@@ -107,9 +109,9 @@ module _ (p : Parameters) where
         | inr (inl less) ↦ absurd (no_limit_within m k t s f less course runs passes)
         | inl same ↦
             let states : s ≡ t = Runs-one k s t runs (subst (λ n. Runs p n t) (sym same) course) in
-            let moved : PassesLimit p (suc k) s.mesh g =
-            subst (λ (u : RunState). PassesLimit p (suc k) u.mesh g) (sym states) (subst (λ n. PassesLimit p (suc n) t.mesh g) (sym same) stops) in
-            let faults : f ≡ g = PassesLimit-one (suc k) s.mesh f g passes moved in
+            let moved : PassesLimit p (suc k) s.state.leaves g =
+            subst (λ (u : RunState). PassesLimit p (suc k) u.state.leaves g) (sym states) (subst (λ n. PassesLimit p (suc n) t.state.leaves g) (sym same) stops) in
+            let faults : f ≡ g = PassesLimit-one (suc k) s.state.leaves f g passes moved in
             record { state = states; limit = is ∙ ap Some faults ∙ sym ends }
         | inr (inr more) ↦ absurd (no_limit_within k m s t g more runs course stops)
       ]

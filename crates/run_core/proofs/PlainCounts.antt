@@ -57,9 +57,9 @@ module _ (p : Parameters) where
       let y = b.2 in
       let before : a.0 ≡ b.0 = CountsPhases-one phases a.0 b.0 a.1 b.1 in
       let same : x.state ≡ y.state = Runs-one p phases x.state y.state x.runs y.runs in
-      let moved : IsPlainCount p.grid y.state.mesh (wishes_in p (suc phases) y.state.mesh) x.count =
-      subst (λ (s : RunState). IsPlainCount p.grid s.mesh (wishes_in p (suc phases) s.mesh) x.count) same x.plain in
-      let counts : x.count ≡ y.count = IsPlainCount-one p.grid y.state.mesh (wishes_in p (suc phases) y.state.mesh) x.count y.count moved y.plain in
+      let moved : IsPlainCount p.grid y.state.state.leaves (wishes_in p (suc phases) y.state.state.leaves) x.count =
+      subst (λ (s : RunState). IsPlainCount p.grid s.state.leaves (wishes_in p (suc phases) s.state.leaves) x.count) same x.plain in
+      let counts : x.count ≡ y.count = IsPlainCount-one p.grid y.state.state.leaves (wishes_in p (suc phases) y.state.state.leaves) x.count y.count moved y.plain in
       x.together ∙ (ap (λ k. a.0 + k) counts ∙ ap (λ k. k + y.count) before) ∙ sym y.together
 
   CountsPhases-exists : (phases : ℕ) (s : RunState) → IsDomain p.grid → Runs p phases s → (n : ℕ) × CountsPhases p phases n
@@ -67,8 +67,9 @@ module _ (p : Parameters) where
   CountsPhases-exists (suc phases) s domain runs =
       let state : RunState = runs.0 in
       let tiles = Runs-Tiles p phases state domain runs.1 in
-      let wishes : List Wish = wishes_in p (suc phases) state.mesh in
-      let plain = plain_count_exists p.grid state.mesh wishes domain tiles.mesh tiles.balanced (length-map state.mesh (wish_of p (suc phases))) in
+      let mesh : List Cube = state.state.leaves in
+      let wishes : List Wish = wishes_in p (suc phases) mesh in
+      let plain = plain_count_exists p.grid mesh wishes domain tiles.mesh tiles.balanced (length-map mesh (wish_of p (suc phases))) in
       let before = CountsPhases-exists phases state domain runs.1 in
       let more : CountsPhase p phases before.0 (before.0 + plain.0) = record {
         state = state;

@@ -12,11 +12,13 @@ use Rattle.leaf_set.proofs.RootMeshes.{root_mesh-IsMesh, root_mesh-IsBalanced}
 use Rattle.leaf_set.proofs.LeastLevels.{least_exists}
 use Rattle.leaf_set.proofs.NextMeshes.{next_mesh-IsMesh}
 use Rattle.leaf_set.proofs.Balance.{next_mesh-IsBalanced}
+use Rattle.block_fields.specs.Samples.{adapted}
+use Rattle.block_fields.specs.States.{State}
 use Rattle.params_check.specs.Parameters.{Parameters}
 use Rattle.run_core.specs.declared.fault.RunFault.{RunFault}
 use Rattle.run_core.specs.declared.fault.RunFault.TheVariants.{LevelLimit, BlockLimit}
 use Rattle.run_core.specs.Wishes.{wish_of, wishes_in}
-use Rattle.run_core.specs.Runs.{KeepsLevelLimit, Adapts, PassesLimit, of_level, of_blocks, RunState, RunSteps, Runs, RunEnds, after_all, at_limit, run_start, run_state}
+use Rattle.run_core.specs.Runs.{KeepsLevelLimit, Decides, Adapts, PassesLimit, of_level, of_blocks, RunState, RunSteps, Runs, RunEnds, after_all, at_limit, run_start, run_state}
 
 true_cases : (b : Bool) → (b ≡ true) ⊎ (b ≡ true → ⊥)
 true_cases true = inl refl
@@ -89,10 +91,10 @@ module _ (p : Parameters) (g : IsDomain p.grid) where
       ]
 
   record OneMore (phase : ℕ) (before : List Cube) : Type 0 where
-    after : List Cube
-    adapts : Adapts p phase before after
-    mesh : IsMesh p.grid after
-    balanced : IsBalanced p.grid after
+    levels : List ℕ
+    decides : Decides p phase before levels
+    mesh : IsMesh p.grid (next_mesh before levels)
+    balanced : IsBalanced p.grid (next_mesh before levels)
 
   one_more : (phase : ℕ) (before : List Cube) → IsMesh p.grid before → IsBalanced p.grid before
       → OneMore phase before ⊎ ((fault : RunFault) × PassesLimit p phase before fault)
@@ -113,8 +115,8 @@ module _ (p : Parameters) (g : IsDomain p.grid) where
                   )
               | inr fits ↦
                   inl (record {
-                    after = next_mesh before levels;
-                    adapts = record { level_limit = keeps; levels = levels; least = least.1; next = refl; block_limit = fits };
+                    levels = levels;
+                    decides = record { level_limit = keeps; least = least.1; block_limit = fits };
                     mesh = next_mesh-IsMesh grid before levels g m s.one_each s.range s.lone s.siblings;
                     balanced = next_mesh-IsBalanced grid before levels g m s.range s.jump s.lone s.siblings;
                   })
@@ -122,46 +124,48 @@ module _ (p : Parameters) (g : IsDomain p.grid) where
       ]
 
   record Ran (phases : ℕ) : Type 0 where
-    state : RunState
-    runs : Runs p phases state
-    mesh : IsMesh p.grid state.mesh
-    balanced : IsBalanced p.grid state.mesh
+    run : RunState
+    runs : Runs p phases run
+    mesh : IsMesh p.grid run.state.leaves
+    balanced : IsBalanced p.grid run.state.leaves
 
   record Stopped (bound : ℕ) : Type 0 where
     phases : ℕ
-    state : RunState
+    run : RunState
     fault : RunFault
     below : phases < bound
-    runs : Runs p phases state
-    passes : PassesLimit p (suc phases) state.mesh fault
+    runs : Runs p phases run
+    passes : PassesLimit p (suc phases) run.state.leaves fault
 
   course : (phases : ℕ) → Ran phases ⊎ Stopped phases
-  course zero = inl (record { state = run_start p; runs = refl; mesh = root_mesh-IsMesh p.grid g; balanced = root_mesh-IsBalanced p.grid })
+  course zero = inl (record { run = run_start p; runs = refl; mesh = root_mesh-IsMesh p.grid g; balanced = root_mesh-IsBalanced p.grid })
   course (suc phases) =
       elim (course phases) [
         | inr stopped ↦
             inr (record {
               phases = stopped.phases;
-              state = stopped.state;
+              run = stopped.run;
               fault = stopped.fault;
               below = omega (arith, stopped.below);
               runs = stopped.runs;
               passes = stopped.passes;
             })
         | inl before ↦
-            let s : RunState = before.state in
-            elim (one_more (suc phases) s.mesh before.mesh before.balanced) [
-              | inr h ↦ inr (record { phases = phases; state = s; fault = h.0; below = omega arith; runs = before.runs; passes = h.1 })
+            let s : RunState = before.run in
+            elim (one_more (suc phases) s.state.leaves before.mesh before.balanced) [
+              | inr h ↦ inr (record { phases = phases; run = s; fault = h.0; below = omega arith; runs = before.runs; passes = h.1 })
               | inl more ↦
-                  let t : RunState = run_state more.after (s.leaves ++ length more.after ∷ []) in
-                  let step : RunSteps p (suc phases) s t = record { adapts = more.adapts; leaves = refl } in
-                  inl (record { state = t; runs = (s, before.runs, step); mesh = more.mesh; balanced = more.balanced })
+                  let after : State = adapted s.state more.levels in
+                  let t : RunState = run_state after (s.leaves ++ length after.leaves ∷ []) in
+                  let adapts : Adapts p (suc phases) s.state after = record { levels = more.levels; decides = more.decides; next = refl } in
+                  let step : RunSteps p (suc phases) s t = record { adapts = adapts; leaves = refl } in
+                  inl (record { run = t; runs = (s, before.runs, step); mesh = more.mesh; balanced = more.balanced })
             ]
       ]
 
   pub run_exists : (s : RunState) × (limit : Option RunFault) × RunEnds p s limit
   run_exists =
       elim (course p.rounds) [
-        | inl h ↦ (h.state, None, after_all h.runs refl)
-        | inr h ↦ (h.state, Some h.fault, at_limit h.phases h.fault h.below h.runs h.passes refl)
+        | inl h ↦ (h.run, None, after_all h.runs refl)
+        | inr h ↦ (h.run, Some h.fault, at_limit h.phases h.fault h.below h.runs h.passes refl)
       ]

@@ -1,2 +1,3 @@
 -- Definitions that serve proofs alone.
 pub mod Bounds
+pub mod Decisions

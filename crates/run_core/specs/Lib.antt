@@ -2,4 +2,5 @@
 pub mod Wishes
 pub mod Runs
 pub mod PlainCounts
+pub mod Totals
 pub mod Lemmas

@@ -28,7 +28,7 @@ pub record CountsPhase (p : Parameters) (phases before after : ℕ) : Type 0 whe
   pub state : RunState
   pub runs : Runs p phases state
   pub count : ℕ
-  pub plain : IsPlainCount p.grid state.mesh (wishes_in p (suc phases) state.mesh) count
+  pub plain : IsPlainCount p.grid state.state.leaves (wishes_in p (suc phases) state.state.leaves) count
   pub together : after ≡ before + count
 
 -- the run's first phases, which are this many, handle so many messages together

@@ -1,11 +1,15 @@
--- The defined run of parameters: adapt phases one after another, from the mesh of the roots on, to the last or to a
--- limit.
+-- The defined run of parameters: adapt phases one after another, from the root blocks with their amounts on, to the
+-- last or to a limit.
 use Rattle.std.specs.Prelude.{◌≡◌, ℕ, zero, suc, ◌<◌, ◌≤◌, true, List, [], ◌∷◌, ◌++◌, length, Option, Some, None, slice_get}
 use Rattle.block_index.specs.Places.{Cube}
 use Rattle.block_index.specs.declared.wish.Wish.TheVariants.{Refine}
 use Rattle.leaf_set.specs.LevelRules.{IsLeast}
 use Rattle.leaf_set.specs.NextMesh.{next_mesh}
-use Rattle.leaf_set.specs.RootMesh.{root_mesh}
+use Rattle.block_fields.specs.Blocks.{BlockState}
+use Rattle.block_fields.specs.BlockStates.{AreBlocksOf, state_of}
+use Rattle.block_fields.specs.Samples.{adapted}
+use Rattle.block_fields.specs.States.{State}
+use Rattle.initial_fill.specs.RootBlocks.{initial_state, root_depth}
 use Rattle.params_check.specs.Parameters.{Parameters}
 use Rattle.run_core.specs.declared.fault.RunFault.{RunFault}
 use Rattle.run_core.specs.declared.fault.RunFault.TheVariants.{LevelLimit, BlockLimit}
@@ -25,13 +29,18 @@ pub record WishesTooFine (p : Parameters) (phase : ℕ) (mesh : List Cube) (i : 
 abbrev pub KeepsLevelLimit : Parameters → ℕ → List Cube → Type 0
 KeepsLevelLimit p phase mesh = p.strict ≡ true → (i : ℕ) (place : Cube) → WishesTooFine p phase mesh i place → ⊥
 
--- One adapt phase leads from a mesh to the next, by the least levels that meet the level rules, within both limits.
-pub record Adapts (p : Parameters) (phase : ℕ) (before after : List Cube) : Type 0 where
-  pub level_limit : KeepsLevelLimit p phase before
+-- One adapt phase decides on these levels of a mesh's leaves, the least that meet the level rules, within both limits.
+pub record Decides (p : Parameters) (phase : ℕ) (mesh : List Cube) (levels : List ℕ) : Type 0 where
+  pub level_limit : KeepsLevelLimit p phase mesh
+  pub least : IsLeast p.grid mesh (wishes_in p phase mesh) levels
+  pub block_limit : length (next_mesh mesh levels) ≤ p.max_blocks
+
+-- One adapt phase leads from a state to the next: the next mesh by these levels, whose cells hold the samples of the
+-- state before.
+pub record Adapts (p : Parameters) (phase : ℕ) (before after : State) : Type 0 where
   pub levels : List ℕ
-  pub least : IsLeast p.grid before (wishes_in p phase before) levels
-  pub next : after ≡ next_mesh before levels
-  pub block_limit : length after ≤ p.max_blocks
+  pub decides : Decides p phase before.leaves levels
+  pub next : after ≡ adapted before levels
 
 -- An adapt phase ends the run by a limit: with strict parameters the first leaf that wishes for a level above the
 -- finest, else a next mesh of more leaves than there may be blocks.
@@ -42,22 +51,30 @@ pub data PassesLimit (p : Parameters) (phase : ℕ) (mesh : List Cube) (fault : 
       p.max_blocks < length (next_mesh mesh levels) → fault ≡ BlockLimit phase (length (next_mesh mesh levels)) p.max_blocks →
       PassesLimit p phase mesh fault
 
--- Where a run stands: its mesh, and the number of leaves after each phase so far.
+-- the blocks are those of these leaves in order, with the edge and the fields of the parameters
+abbrev pub AreBlocksFor : Parameters → List Cube → List BlockState → Type 0
+AreBlocksFor p leaves blocks = AreBlocksOf leaves p.block (length p.fields) root_depth blocks
+
+-- the state that such blocks hold
+abbrev pub blocks_state : Parameters → List BlockState → State
+blocks_state p blocks = state_of p.grid p.block (length p.fields) blocks
+
+-- Where a run stands: the state of its mesh and amounts, and the number of leaves after each phase so far.
 pub record RunState : Type 0 where
-  pub mesh : List Cube
+  pub state : State
   pub leaves : List ℕ
 
-abbrev pub run_state : List Cube → List ℕ → RunState
-run_state mesh leaves = record { mesh = mesh; leaves = leaves }
+abbrev pub run_state : State → List ℕ → RunState
+run_state state leaves = record { state = state; leaves = leaves }
 
 -- the run before its first phase
 abbrev pub run_start : Parameters → RunState
-run_start p = record { mesh = root_mesh p.grid; leaves = [] }
+run_start p = record { state = initial_state p; leaves = [] }
 
 -- one phase more, which has this number
 pub record RunSteps (p : Parameters) (phase : ℕ) (s t : RunState) : Type 0 where
-  pub adapts : Adapts p phase s.mesh t.mesh
-  pub leaves : t.leaves ≡ s.leaves ++ length t.mesh ∷ []
+  pub adapts : Adapts p phase s.state t.state
+  pub leaves : t.leaves ≡ s.leaves ++ length t.state.leaves ∷ []
 
 -- the first phases of the run, which are this many and are numbered from 1
 abbrev pub Runs : Parameters → ℕ → RunState → Type 0
@@ -67,9 +84,9 @@ Runs p (suc phases) t = (s : RunState) × Runs p phases s × RunSteps p (suc pha
 -- The run ends, in this state: after its last phase, or by a limit that the next phase passes.
 pub data RunEnds (p : Parameters) (s : RunState) (limit : Option RunFault) : Type 0 where
   after_all : Runs p p.rounds s → limit ≡ None → RunEnds p s limit
-  at_limit : (phases : ℕ) (fault : RunFault) → phases < p.rounds → Runs p phases s → PassesLimit p (suc phases) s.mesh fault → limit ≡ Some fault →
+  at_limit : (phases : ℕ) (fault : RunFault) → phases < p.rounds → Runs p phases s → PassesLimit p (suc phases) s.state.leaves fault → limit ≡ Some fault →
       RunEnds p s limit
 
 -- no phase of the run passes a limit
 abbrev pub MeetsNoLimit : Parameters → Type 0
-MeetsNoLimit p = (phases : ℕ) (s : RunState) (fault : RunFault) → phases < p.rounds → Runs p phases s → PassesLimit p (suc phases) s.mesh fault → ⊥
+MeetsNoLimit p = (phases : ℕ) (s : RunState) (fault : RunFault) → phases < p.rounds → Runs p phases s → PassesLimit p (suc phases) s.state.leaves fault → ⊥

@@ -1,28 +1,34 @@
 //! The run of parameters: its adapt phases, one after another, to the last or to a limit.
-ghost use Rattle.std.specs.Prelude.{◌≡◌, ◌⊎◌, ◌≤◌, ◌↔◌, true, None, IfOk, IfErr, IfSome, IfNone, length};
+ghost use Rattle.std.specs.Prelude.{◌≡◌, ℕ, ◌⊎◌, ◌^◌, ◌<◌, ◌≤◌, ◌↔◌, true, None, IfOk, IfErr, IfSome, IfNone, length};
 ghost use Rattle.block_index.specs.declared.wish.Wish.TheVariants.{Refine};
 ghost use Rattle.leaf_set.specs.LevelRules.{IsLeast};
+ghost use Rattle.block_fields.specs.States.{total};
 ghost use Rattle.run_core.specs.Lemmas.Bounds.{many_messages};
 ghost use Rattle.run_core.specs.Wishes.{wishes_in};
-ghost use Rattle.run_core.specs.Runs.{Adapts, KeepsLevelLimit, PassesLimit, RunEnds, most_phases, run_state};
+ghost use Rattle.run_core.specs.Runs.{AreBlocksFor, KeepsLevelLimit, PassesLimit, RunEnds, blocks_state, most_phases, run_state};
+ghost use Rattle.run_core.specs.Lemmas.Decisions.{LeadsTo};
 ghost use Rattle.run_core.specs.PlainCounts.{HandlesPlainly, IsPlainCount};
 
 use crate::fault::RunFault;
 use crate::wishes::wishes_in;
 use adapt_core::{Adapt, few_messages, levels};
+use block_fields::Block;
 use block_index::{Place, Wish};
 use cello_num::Memory;
+use initial_fill::fill;
 use leaf_set::LeafSet;
 use params_check::Params;
 use phase_core::drive;
 use sibling_rule::{count_after, decide};
+use split_join::apply;
 use std::alloc::Global;
 
-/// How a run ended: its mesh, the number of leaves after each phase, how many messages were handled, and the limit
-/// that ended it, if one did.
+/// How a run ended: its mesh, a block for each of its leaves, the number of leaves after each phase, how many messages
+/// were handled, and the limit that ended it, if one did.
 #[derive(Drop)]
 pub struct Run {
     pub set: LeafSet,
+    pub blocks: Vec<Block>,
     pub leaves: Vec<u32>,
     pub handled: u64,
     pub limit: Option<RunFault>,
@@ -35,13 +41,16 @@ struct PhaseEnd {
     handled: u64,
 }
 
-/// Runs the adapt phases of parameters, from the mesh of the roots on.
+/// Runs the adapt phases of parameters, from the root blocks on.
 pub fn run_phases(alloc: Global, params: &Params) -> Result<Run, Memory>
-    ensures ends { IfOk result (λ run. RunEnds params.now (run_state run.set.places run.leaves.items) run.limit) }
+    ensures ends { IfOk result (λ run. RunEnds params.now (run_state (blocks_state params.now run.blocks.items) run.leaves.items) run.limit) }
+    ensures blocks { IfOk result (λ run. AreBlocksFor params.now run.set.places run.blocks.items) }
+    ensures totals { IfOk result (λ run. (f : ℕ) → f < length params.now.fields → total (blocks_state params.now run.blocks.items) f ≤ 2 ^ 40) }
     ensures handled { IfOk result (λ run. run.limit ≡ None → HandlesPlainly params.now run.handled) }
     ensures phases { IfOk result (λ run. length run.leaves.items ≤ most_phases) }
 {
     let mut set = LeafSet::roots(alloc, *params.domain())?;
+    let mut blocks = fill(alloc, params)?;
     let mut leaves = Vec::new(alloc);
     let mut handled = 0;
     for round in 0..params.rounds() {
@@ -52,6 +61,7 @@ pub fn run_phases(alloc: Global, params: &Params) -> Result<Run, Memory>
                     handled: count,
                 },
             ) => {
+                blocks = apply(alloc, blocks, &set, &next)?;
                 set = next;
                 leaves.push(set.len() as u32)?;
                 handled += count;
@@ -60,6 +70,7 @@ pub fn run_phases(alloc: Global, params: &Params) -> Result<Run, Memory>
                 let limit = limit_of(fault)?;
                 return Ok(Run {
                     set,
+                    blocks,
                     leaves,
                     handled,
                     limit: Some(limit),
@@ -69,6 +80,7 @@ pub fn run_phases(alloc: Global, params: &Params) -> Result<Run, Memory>
     }
     Ok(Run {
         set,
+        blocks,
         leaves,
         handled,
         limit: None,
@@ -130,10 +142,10 @@ fn least_levels(alloc: Global, set: &LeafSet, wishes: &[Wish]) -> Result<(Vec<u8
     Ok((levels, quiet.handled()))
 }
 
-/// One adapt phase: it leads to the next mesh, or passes a limit.
+/// The decisions of one adapt phase: they lead to the next mesh, or pass a limit.
 fn adapt(alloc: Global, params: &Params, phase: u32, set: &LeafSet) -> Result<PhaseEnd, RunFault>
     requires grid { set.now.grid ≡ params.now.grid }
-    ensures adapts { IfOk result (λ end. Adapts params.now phase set.now.places end.set.places) }
+    ensures decides { IfOk result (λ end. LeadsTo params.now phase set.now.places end.set.places) }
     ensures grid { IfOk result (λ end. end.set.grid ≡ params.now.grid) }
     ensures plain { IfOk result (λ end. IsPlainCount params.now.grid set.now.places
         (wishes_in params.now phase set.now.places) end.handled) }

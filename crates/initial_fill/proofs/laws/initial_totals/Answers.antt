@@ -5,8 +5,7 @@ use Rattle.block_fields.specs.States.{total}
 use Rattle.block_fields.proofs.FilledStates.{IsState-filled}
 use Rattle.block_fields.proofs.RootSums.{root_cells-sum}
 use Rattle.block_fields.proofs.Totals.{total-filled}
-use Rattle.params_check.specs.Parameters.{Parameters}
-use Rattle.params_check.specs.Walks.{total_of}
+use Rattle.params_check.specs.Parameters.{Parameters, total_of}
 use Rattle.initial_fill.specs.RootBlocks.{given_by, initial_state}
 use Rattle.initial_fill.proofs.Amounts.{root_amount-initial_total}
 use Rattle.initial_fill.proofs.laws.initial_totals.Goals as goal
