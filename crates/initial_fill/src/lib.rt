@@ -9,6 +9,8 @@ mod field;
 mod filling;
 mod laws;
 mod stretch;
+#[cfg(test)]
+mod tests;
 
 pub use amount::root_amount;
 pub use filling::{DEPTH, fill};
