@@ -3,5 +3,7 @@
 
 #[cfg(test)]
 mod blocks;
+#[cfg(test)]
+mod filling;
 
 fn main(_rt: HostRuntime) {}

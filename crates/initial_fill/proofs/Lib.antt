@@ -1,2 +1,5 @@
+pub mod Adding
 pub mod Amounts
+pub mod Bounds
+pub mod Outside
 pub mod RootBlocks

@@ -1,1 +1,2 @@
 pub mod RootBlocks
+pub mod Lemmas

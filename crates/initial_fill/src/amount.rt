@@ -11,7 +11,9 @@ pub fn root_amount(params: &Params, field: u8, x: u16, y: u16, z: u16) -> u64
 {
     let mut amount = 0;
     for shape in params.shapes().items() {
-        if shape.field == field && holds_cell(shape.form, x, y, z) {
+        if shape.field == field
+            && holds_cell(shape.form, u32::from(x), u32::from(y), u32::from(z))
+        {
             amount += shape.amount;
         }
     }
@@ -19,7 +21,10 @@ pub fn root_amount(params: &Params, field: u8, x: u16, y: u16, z: u16) -> u64
 }
 
 /// Whether a form holds a root cell.
-fn holds_cell(form: Form, x: u16, y: u16, z: u16) -> bool
+fn holds_cell(form: Form, x: u32, y: u32, z: u32) -> bool
+    requires x { x < 2 ^ 21 }
+    requires y { y < 2 ^ 21 }
+    requires z { z < 2 ^ 21 }
     ensures { result ≡ holds_cell form x y z }
 {
     match form {
@@ -39,16 +44,17 @@ fn holds_cell(form: Form, x: u16, y: u16, z: u16) -> bool
 }
 
 /// Whether a coordinate is from `low` on and below `high`.
-fn lies_between(low: u16, high: u16, x: u16) -> bool
+pub(crate) fn lies_between(low: u16, high: u16, x: u32) -> bool
     ensures { result ≡ lies_between low high x }
 {
-    low <= x && x < high
+    u32::from(low) <= x && x < u32::from(high)
 }
 
 /// The square of twice the distance from a cell's middle to a center, along an axis.
-pub(crate) fn squared_gap(cell: u16, center: u16) -> u64
+pub(crate) fn squared_gap(cell: u32, center: u16) -> u64
+    requires cell { cell < 2 ^ 21 }
     ensures gap { result ≡ squared_gap cell center }
-    ensures few { result < 2 ^ 36 }
+    ensures few { result ≤ 2 ^ 44 }
 {
     let gap = (2 * u64::from(cell) + 1).abs_diff(2 * u64::from(center));
     gap * gap

@@ -8,6 +8,7 @@ mod amount;
 mod field;
 mod filling;
 mod laws;
+mod stretch;
 
 pub use amount::root_amount;
 pub use filling::{DEPTH, fill};

@@ -1,11 +1,11 @@
--- The cells so far.
-use Rattle.std.proofs.Common.{◌≡◌, ℕ, ◌*◌, ◌<◌, length, slice_index}
-use Rattle.block_fields.specs.Cells.{cell_at}
-use Rattle.initial_fill.specs.RootBlocks.{given_by}
+-- The shapes so far.
+use Rattle.std.proofs.Common.{◌≡◌, ℕ, ◌*◌, ◌^◌, ◌<◌, ◌≤◌, length, slice_index, take}
+use Rattle.initial_fill.proofs.Amounts.{amount_of_number}
 use Rattle.initial_fill.proofs.field.fill_field.Given as goal
 
-abbrev pub invariant-loop-j : goal.invariant-loop-j
-invariant-loop-j l = record {
-  filled : (k : ℕ) → k < l.j → slice_index l.amounts k ≡ given_by l.params l.field (cell_at l.n l.fn.place k);
+abbrev pub invariant-loop-shape : goal.invariant-loop-shape
+invariant-loop-shape l = record {
   long : length l.amounts ≡ l.n * l.n * l.n;
+  added : (j : ℕ) → j < length l.amounts → slice_index l.amounts j ≡ amount_of_number (take l.shape-index l.params.shapes) l.field l.n l.place j;
+  few : (j : ℕ) → j < length l.amounts → slice_index l.amounts j ≤ l.shape-index * 2 ^ 40;
 }
