@@ -66,7 +66,7 @@ solo_answer words bytes p solo has (Some fault) e = (refusal fault, not_built p 
 solo_answer words bytes p solo has None e =
     let limits = accepted-limits has.groups p has.spelled.limits has.accepted in
     let h = run_exists p limits.domain in
-    (run_answer h.0 h.1, run p h.0 h.1 solo has e h.2 refl)
+    (run_answer p h.0 h.1, run p h.0 h.1 solo has e h.2 refl)
 
 pub answer_exists : (words : List (List ℕ)) (bytes : List ℕ) → (a : Answer) × IsAnswer words bytes a
 answer_exists words bytes =

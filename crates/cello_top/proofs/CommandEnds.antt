@@ -77,7 +77,7 @@ module _ (words : List (List ℕ)) (old new : Option (List ℕ)) (ended : Bool) 
     run-written solo h = record {
       bytes = r.bytes;
       read = r.read;
-      answer = run_answer h.state None;
+      answer = run_answer p h.state None;
       is = run p h.state None solo r.parameters h.built h.ends refl;
       same_fault = refl;
       written = h.written;
@@ -89,7 +89,7 @@ module _ (words : List (List ℕ)) (old new : Option (List ℕ)) (ended : Bool) 
         command_answered (limit-answered (fault_of limit) is) (limit-saw (fault_of limit) is) (record {
           bytes = r.bytes;
           read = r.read;
-          answer = run_answer h.state (Some limit);
+          answer = run_answer p h.state (Some limit);
           is = run p h.state (Some limit) solo r.parameters h.built h.ends refl;
           same_fault = refl;
           written = h.written;
@@ -110,7 +110,7 @@ module _ (words : List (List ℕ)) (old new : Option (List ℕ)) (ended : Bool) 
         command_sink e (record {
           bytes = r.bytes;
           read = r.read;
-          answer = run_answer h.state h.limit;
+          answer = run_answer p h.state h.limit;
           is = run p h.state h.limit solo r.parameters h.built h.ends refl;
           part = h.part;
         })
@@ -118,12 +118,12 @@ module _ (words : List (List ℕ)) (old new : Option (List ℕ)) (ended : Bool) 
 
 -- a run that a limit ended
 pub ran-limited : (p : Parameters) (before after : Option (List ℕ)) (s : RunState) (found : Option RunFault) (limit : RunFault) → found ≡ Some limit
-    → unbuilt p ≡ None → RunEnds p s found → after ≡ append_known before (bytes_of (report s found)) → RanWritten p (Some limit) before after
+    → unbuilt p ≡ None → RunEnds p s found → after ≡ append_known before (bytes_of (report p s found)) → RanWritten p (Some limit) before after
 ran-limited p before after s found limit is built ends written = record {
   built = built;
   state = s;
   ends = subst (RunEnds p s) is ends;
-  written = written ∙ ap (λ (o : Option RunFault). append_known before (bytes_of (report s o))) is;
+  written = written ∙ ap (λ (o : Option RunFault). append_known before (bytes_of (report p s o))) is;
 }
 
 -- what isn't built is no fault of the sink

@@ -1,5 +1,5 @@
 -- What the faults of texts, of what isn't built and of runs come from.
-use Rattle.std.proofs.Common.{◌≡◌, ℕ, suc, List, Bool, true, false, Option, Some, None, cond, length, refl, sym, ap, subst, ◌∙◌}
+use Rattle.std.proofs.Common.{◌≡◌, ℕ, suc, List, Bool, true, false, Option, Some, None, cond, refl, sym, ap, subst, ◌∙◌}
 use Rattle.std.proofs.lemmas.Option.{same_Some, none-some}
 use Rattle.std.specs.List.{list_any}
 use Rattle.std.specs.Prelude.{codes, nat_lt, T}
@@ -42,10 +42,8 @@ unfolding unbuilt
 unbuilt-IsOfText p =
     let third : Option Fault = cond (nat_lt 0 p.cycles) (Some (Unbuilt (codes "Method") (codes "cycles"))) (unbuilt_file p) in
     let samples : Bool = list_any (λ (k : Criterion). looks_at_field k.test) p.criteria in
-    let second : Option Fault = cond samples (Some (Unbuilt (codes "Adapt") (codes "type"))) third in
     let last : IsOfText third = chosen (nat_lt 0 p.cycles) (codes "Method") (codes "cycles") (unbuilt_file p) (file-IsOfText p) in
-    let middle : IsOfText second = chosen samples (codes "Adapt") (codes "type") third last in
-    chosen (nat_lt 0 (length p.fields)) (codes "Field") (codes "names") second middle
+    chosen samples (codes "Adapt") (codes "type") third last
 
 pub unbuilt-class : (p : Parameters) (f : Fault) → unbuilt p ≡ Some f → class_of f ≡ Text
 unbuilt-class p f e = subst IsOfText e (unbuilt-IsOfText p)
@@ -53,7 +51,7 @@ unbuilt-class p f e = subst IsOfText e (unbuilt-IsOfText p)
 -- the limit that ends a run
 pub limit-class : (p : Parameters) (s : RunState) (limit : RunFault) → RunEnds p s (Some limit) → class_of (fault_of limit) ≡ Limit
 limit-class p s limit (after_all runs none) = absurd (none-some limit (sym none))
-limit-class p s limit (at_limit phases f below runs passes is) = passed (suc phases) s.mesh f passes (same_Some limit f is)
+limit-class p s limit (at_limit phases f below runs passes is) = passed (suc phases) s.state.leaves f passes (same_Some limit f is)
   where
     passed : (phase : ℕ) (mesh : List Cube) (f : RunFault) → PassesLimit p phase mesh f → limit ≡ f → class_of (fault_of limit) ≡ Limit
     passed phase mesh f (of_level i place strict too none e) same = ap (λ (l : RunFault). class_of (fault_of l)) (same ∙ e)

@@ -3,6 +3,7 @@ mod OneWord
 mod FaultClasses
 mod TextEnds
 mod Pieces
+mod FieldLines
 mod Texts
 mod OneAnswer
 mod CommandEnds

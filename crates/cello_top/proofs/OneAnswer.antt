@@ -14,9 +14,9 @@ use Rattle.cello_top.specs.Answers.{Answer, IsAnswer, other_words, other_text, c
 use Rattle.cello_top.proofs.Texts.{HasParameters-one, HasTextFault-one, accepted_or_faulty}
 
 -- a run has one answer
-run_answer-one : (p : Parameters) (s t : RunState) (a b : Option RunFault) → RunEnds p s a → RunEnds p t b → run_answer s a ≡ run_answer t b
+run_answer-one : (p : Parameters) (s t : RunState) (a b : Option RunFault) → RunEnds p s a → RunEnds p t b → run_answer p s a ≡ run_answer p t b
 run_answer-one p s t a b x y =
-    ap (λ (u : RunState). run_answer u a) (RunEnds-state p s t a b x y) ∙ ap (run_answer t) (RunEnds-limit p s t a b x y)
+    ap (λ (u : RunState). run_answer p u a) (RunEnds-state p s t a b x y) ∙ ap (run_answer p t) (RunEnds-limit p s t a b x y)
 
 -- words are of one command
 pub solo_or_check : (words : List (List ℕ)) → IsSolo words → IsCheck words → ⊥
@@ -54,7 +54,8 @@ IsAnswer-one words bytes a b (run p s limit solo has none ends e) (checked q che
 IsAnswer-one words bytes a b (run p s limit solo has none ends e) (not_built q g again too some h) = absurd (built_or_not bytes q p g too has some none)
 IsAnswer-one words bytes a b (run p s limit solo has none ends e) (run q t last again too built stops h) =
     let same : q ≡ p = HasParameters-one bytes q p too has in
-    e ∙ run_answer-one p s t limit last ends (subst (λ (x : Parameters). RunEnds x t last) same stops) ∙ sym h
+    e ∙ run_answer-one p s t limit last ends (subst (λ (x : Parameters). RunEnds x t last) same stops)
+    ∙ ap (λ (x : Parameters). run_answer x t last) (sym same) ∙ sym h
 
 -- where a run is built and meets no limit, the answer has no fault
 pub completes : (words : List (List ℕ)) (bytes : List ℕ) (a : Answer) (p : Parameters) → IsSolo words → HasParameters bytes p → unbuilt p ≡ None → MeetsNoLimit p

@@ -2,8 +2,8 @@
 use Rattle.std.specs.Prelude.{◌≡◌, ℕ, ◌+◌, List, [], ◌∷◌, ◌++◌, length, Option, Some, None}
 use Rattle.std.specs.List.{flat_map}
 use Rattle.std.specs.Option.{option_map}
-use Rattle.block_index.specs.Places.{Cube}
-use Rattle.mesh_output.specs.Lines.{header_line, phase_line, cycle_line, mesh_text, end_line}
+use Rattle.block_fields.specs.States.{State, total}
+use Rattle.mesh_output.specs.Lines.{header_line, phase_line, cycle_line, field_line, mesh_text, end_line}
 use Rattle.params_check.specs.Parameters.{Parameters}
 use Rattle.run_core.specs.declared.fault.RunFault.{RunFault}
 use Rattle.run_core.specs.Runs.{RunState, RunEnds}
@@ -13,23 +13,35 @@ use Rattle.cello_top.specs.Words.{IsSolo, IsCheck, IsCommand}
 use Rattle.cello_top.specs.Faults.{fault_of}
 use Rattle.cello_top.specs.Texts.{HasParameters, HasTextFault, unbuilt}
 
--- the lines of the phases, numbered from `phase` on
-abbrev pub phase_lines : ℕ → List ℕ → List (List ℕ)
-phase_lines phase [] = []
-phase_lines phase (leaves ∷ more) = phase_line phase leaves ∷ phase_lines (phase + 1) more
+-- a line for each element of a list, numbered from `k` on
+abbrev pub numbered_lines : {A : Type 0} → (ℕ → A → List ℕ) → ℕ → List A → List (List ℕ)
+numbered_lines line k [] = []
+numbered_lines line k (x ∷ xs) = line k x ∷ numbered_lines line (k + 1) xs
+
+-- the lines of the phases, numbered from 1 on
+abbrev pub phase_lines : List ℕ → List (List ℕ)
+phase_lines leaves = numbered_lines phase_line 1 leaves
 
 -- the first lines of a report, up to those of the phases, after which the mesh has these numbers of leaves
 abbrev pub opening_lines : List ℕ → List (List ℕ)
-opening_lines leaves = (header_line ∷ []) ++ phase_lines 1 leaves
+opening_lines leaves = (header_line ∷ []) ++ phase_lines leaves
 
--- the last pieces of the report of a run that ends with this mesh
-abbrev pub closing_lines : List Cube → List (List ℕ)
-closing_lines mesh = cycle_line 0 (length mesh) ∷ (mesh_text mesh ++ end_line) ∷ []
+-- the line of a field at cycle 0: its total in this state, and nothing has left the domain
+abbrev pub first_line : State → ℕ → List ℕ → List ℕ
+first_line s field name = field_line name (total s field) 0 0
+
+-- the lines of cycle 0, of a state whose fields have these names: the number of leaves, and each field in order
+abbrev pub cycle_lines : List (List ℕ) → State → List (List ℕ)
+cycle_lines names s = cycle_line 0 (length s.leaves) ∷ numbered_lines (first_line s) 0 names
+
+-- the last pieces of the report of a run that ends with this state
+abbrev pub closing_lines : List (List ℕ) → State → List (List ℕ)
+closing_lines names s = cycle_lines names s ++ (mesh_text s.leaves ++ end_line) ∷ []
 
 -- The pieces of a run's report. One that a limit ends has no more than the lines of the phases before it.
-abbrev pub report : RunState → Option RunFault → List (List ℕ)
-report s None = opening_lines s.leaves ++ closing_lines s.mesh
-report s (Some limit) = opening_lines s.leaves
+abbrev pub report : Parameters → RunState → Option RunFault → List (List ℕ)
+report p run None = opening_lines run.leaves ++ closing_lines p.fields run.state
+report p run (Some limit) = opening_lines run.leaves
 
 -- the bytes of these pieces
 abbrev pub bytes_of : List (List ℕ) → List ℕ
@@ -45,8 +57,8 @@ abbrev pub refusal : Fault → Answer
 refusal fault = record { fault = Some fault; actions = [] }
 
 -- the answer of a run
-abbrev pub run_answer : RunState → Option RunFault → Answer
-run_answer s limit = record { fault = option_map fault_of limit; actions = report s limit }
+abbrev pub run_answer : Parameters → RunState → Option RunFault → Answer
+run_answer p s limit = record { fault = option_map fault_of limit; actions = report p s limit }
 
 -- the answer that writes the canonical text of parameters
 abbrev pub text_answer : Parameters → Answer
@@ -61,4 +73,4 @@ pub data IsAnswer (words : List (List ℕ)) (bytes : List ℕ) (answer : Answer)
   not_built : (p : Parameters) (fault : Fault) → IsSolo words → HasParameters bytes p → unbuilt p ≡ Some fault → answer ≡ refusal fault →
       IsAnswer words bytes answer
   run : (p : Parameters) (s : RunState) (limit : Option RunFault) → IsSolo words → HasParameters bytes p → unbuilt p ≡ None → RunEnds p s limit →
-      answer ≡ run_answer s limit → IsAnswer words bytes answer
+      answer ≡ run_answer p s limit → IsAnswer words bytes answer

@@ -1,5 +1,5 @@
 -- The parameters of a text, or its first fault; and what parameters ask for that isn't built.
-use Rattle.std.specs.Prelude.{◌≡◌, ℕ, List, Bool, true, false, nat_lt, cond, length, codes, Option, Some, None, Ok, Err}
+use Rattle.std.specs.Prelude.{◌≡◌, ℕ, List, Bool, true, false, nat_lt, cond, codes, Option, Some, None, Ok, Err}
 use Rattle.std.specs.List.{list_any}
 use Rattle.params_syntax.specs.declared.tree.Group.{Group}
 use Rattle.params_syntax.specs.declared.fault.SyntaxFault.{SyntaxFault}
@@ -37,10 +37,9 @@ unbuilt_file p =
     (cond (nat_lt 0 p.fields_every) (Some (Unbuilt (codes "Output") (codes "fields")))
     (cond (nat_lt 0 p.checkpoint_every) (Some (Unbuilt (codes "Output") (codes "checkpoint"))) None))
 
--- The first thing that the parameters ask a run for and that isn't built: a field, a criterion other than a box, a
--- cycle, or a file.
+-- The first thing that the parameters ask a run for and that isn't built: a criterion other than a box, a cycle, or a
+-- file.
 unfoldable pub unbuilt : Parameters → Option Fault
 unbuilt p =
-    cond (nat_lt 0 (length p.fields)) (Some (Unbuilt (codes "Field") (codes "names")))
-    (cond (list_any (λ k. looks_at_field k.test) p.criteria) (Some (Unbuilt (codes "Adapt") (codes "type")))
-    (cond (nat_lt 0 p.cycles) (Some (Unbuilt (codes "Method") (codes "cycles"))) (unbuilt_file p)))
+    cond (list_any (λ k. looks_at_field k.test) p.criteria) (Some (Unbuilt (codes "Adapt") (codes "type")))
+    (cond (nat_lt 0 p.cycles) (Some (Unbuilt (codes "Method") (codes "cycles"))) (unbuilt_file p))

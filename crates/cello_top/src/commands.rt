@@ -81,7 +81,7 @@ fn run_parameters<K: Sink>(alloc: Global, params: &Params, sink: &mut K) -> Resu
         Ok(run) => run,
         Err(Memory) => return Err(Fault::Memory),
     };
-    if let Err(Failed) = write_report(&run, sink) {
+    if let Err(Failed) = write_report(params, &run, sink) {
         return Err(Fault::WriteFault);
     }
     let Run { limit, handled, .. } = run;

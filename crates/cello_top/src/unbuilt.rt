@@ -59,9 +59,6 @@ fn unbuilt_file(params: &Params) -> Option<Fault>
 pub fn unbuilt(params: &Params) -> Option<Fault>
     ensures first { result ≡ unbuilt params.now }
 {
-    if !params.fields().items().is_empty() {
-        return not_built(b"Field", b"names");
-    }
     if looks_at_fields(params.criteria().items()) {
         return not_built(b"Adapt", b"type");
     }

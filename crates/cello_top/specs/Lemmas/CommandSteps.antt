@@ -85,7 +85,7 @@ pub record RanWritten (p : Parameters) (limit : Option RunFault) (before after :
   pub built : unbuilt p ≡ None
   pub state : RunState
   pub ends : RunEnds p state limit
-  pub written : after ≡ append_known before (bytes_of (report state limit))
+  pub written : after ≡ append_known before (bytes_of (report p state limit))
 
 -- the report was written in part
 pub record RanInPart (p : Parameters) (before after : Option (List ℕ)) : Type 0 where
@@ -93,7 +93,7 @@ pub record RanInPart (p : Parameters) (before after : Option (List ℕ)) : Type 
   pub state : RunState
   pub limit : Option RunFault
   pub ends : RunEnds p state limit
-  pub part : GrewByPart before after (bytes_of (report state limit))
+  pub part : GrewByPart before after (bytes_of (report p state limit))
 
 -- why running parameters ends otherwise than well
 pub data RunningEnds (p : Parameters) (before after : Option (List ℕ)) (fault : Fault) : Type 0 where
