@@ -1,4 +1,5 @@
 -- Lemmas by subject.
+pub mod FluxBounds
 mod Padding
 pub mod PartSums
 pub mod Sums

@@ -1,13 +1,15 @@
-//! What every crate of cello shares: the error for want of memory, short names, and the eight parts of an amount.
+//! What every crate of cello shares: the error for want of memory, short names, the eight parts of an amount, and its flux.
 //!
 //! A name holds at most 32 bytes, and contracts see it as the list of them. The parts of an amount add up to it.
 //! None of these takes memory. The definitions stand in `specs/`, with the sum of a function's first values.
 #![tactic(auto)]
 
+mod fluxes;
 mod memory;
 mod name;
 mod parts;
 
+pub use fluxes::flux;
 pub use memory::Memory;
 pub use name::Name;
 pub use parts::{part, parts_add_up};
@@ -37,6 +39,15 @@ mod tests {
             assert_eq!(rt; part(0, k), 0);
             assert_eq!(rt; part(1 << 40, k), 137_438_953_472);
         }
+        Ok(())
+    }
+
+    #[test]
+    fn a_flux_is_rounded_down(rt: HostRuntime) -> Result<(), Fail> {
+        assert_eq!(rt; flux(11, 1, 4, 0), 2);
+        assert_eq!(rt; flux(2, 1, 4, 1), 1);
+        assert_eq!(rt; flux(1, 1, 4, 1), 0);
+        assert_eq!(rt; flux(1 << 42, 1 << 14, 1 << 20, 6), 1 << 42);
         Ok(())
     }
 }

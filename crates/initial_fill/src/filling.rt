@@ -12,9 +12,6 @@ use leaf_set::LeafSet;
 use params_check::Params;
 use std::alloc::Global;
 
-/// How many cells deep the ghosts of root blocks are.
-pub const DEPTH: u8 = 1;
-
 /// The blocks of the roots in order, with the amounts that the shapes give to their cells.
 pub fn fill(alloc: Global, params: &Params) -> Result<Vec<Block>, Memory>
     ensures each { IfOk result (λ blocks. blocks.items ≡ map (root_block params.now) (root_mesh params.now.grid)) }
@@ -36,7 +33,7 @@ fn root_block(alloc: Global, params: &Params, place: Place) -> Result<Block, Mem
     ensures { IfOk result (λ block. block ≡ root_block params.now place) }
 {
     let fields = params.fields().items().len() as u8;
-    let mut block = Block::new(alloc, place, params.block(), fields, DEPTH)?;
+    let mut block = Block::new(alloc, place, params.block(), fields, params.depth())?;
     for f in 0..fields {
         fill_field(params, f, place, block.field_mut(f));
     }

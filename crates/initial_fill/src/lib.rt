@@ -11,5 +11,5 @@ mod laws;
 mod stretch;
 
 pub use amount::root_amount;
-pub use filling::{DEPTH, fill};
+pub use filling::fill;
 pub use laws::initial_totals;

@@ -287,6 +287,13 @@ impl Params {
         self.values.checkpoint_every as u32
     }
 
+    /// How many cells deep the ghosts of blocks are: one, since no flux and no criterion looks farther.
+    pub fn depth(&self) -> u8
+        ensures depth { result ≡ 1 }
+    {
+        1
+    }
+
     /// The canonical text.
     pub fn text(&self) -> &[u8]
         ensures text { result.now ≡ self.now.text }

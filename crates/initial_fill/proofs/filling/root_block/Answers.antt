@@ -16,7 +16,7 @@ returns c =
     let now = c.loop-f.block.amounts in
     let many : length c.items.result.now ≡ length p.fields = ap length (c.items.ensures.items ∙ c.fields.ensures.fields) in
     let zeros : c.in_ok-block.block ≡ zero_block place n (length p.fields) root_depth =
-    c.in_ok-block.ensures.zeros ∙ (λ i. zero_block place (c.block.ensures.block i) (many i) root_depth) in
+    c.in_ok-block.ensures.zeros ∙ (λ i. zero_block place (c.block.ensures.block i) (many i) (c.depth.ensures.depth i)) in
     let first : length c.in_ok-block.block.amounts ≡ length p.fields =
     ap (λ (b : BlockState). length b.amounts) zeros ∙ length-replicate (length p.fields) (replicate {A = ℕ} (n * n * n) 0) in
     let all : now ≡ map (λ f. map (given_by p f) (cells_of n place)) (range_with_len 0 (length p.fields)) =
