@@ -1,3 +1,6 @@
 -- Lemmas by subject.
+pub mod FilesByName
+pub mod MadeFiles
+pub mod MemoryTells
 pub mod ReadLemmas
 pub mod WriteLemmas

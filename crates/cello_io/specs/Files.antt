@@ -1,5 +1,5 @@
 -- What a shelf tells of its files, and what its calls do to that.
-use Rattle.std.specs.Prelude.{◌≡◌, ℕ, ◌+◌, ◌-◌, ◌^◌, min, ◌<◌, ◌≤◌, ◌⊎◌, ◌↔◌, Bool, true, false, not, IsTrue, IsFalse, List, [], ◌∷◌, ◌++◌, length, take, drop, None, IfSome, IfOk, OnOk, OnErr, IsErrOf, IsSomeAnd, Option, Result}
+use Rattle.std.specs.Prelude.{◌≡◌, ℕ, ◌+◌, ◌-◌, ◌^◌, min, ◌<◌, ◌≤◌, ◌⊎◌, ◌↔◌, Bool, true, false, not, IsTrue, IsFalse, List, [], ◌∷◌, ◌++◌, length, take, drop, None, Some, MatchResult, IfSome, IfOk, OnOk, OnErr, IsErrOf, IsSomeAnd, Option, Result}
 use Rattle.std.specs.Option.{option_map}
 use Rattle.cello_io.specs.declared.failed.Failed.{Failed}
 use Rattle.cello_io.specs.declared.failed.FetchFault.{FetchFault}
@@ -99,14 +99,29 @@ pub record Fetches (name : List ℕ) (from : ℕ) (buf : List ℕ) (old new : Sh
   pub failed_cause : IsErrOf result FetchFailed → Rose old.fetch_faults new.fetch_faults
   pub absent_cause : IsErrOf result Absent → Rose old.absences new.absences
 
--- what a shelf without files tells
-abbrev pub idle : ℕ → ℕ → ShelfTells
-idle write_faults fetch_faults = record {
+-- what a shelf tells that can't tell of its files
+abbrev pub untold : Bool → ℕ → ℕ → ℕ → ShelfTells
+untold is_writing write_faults fetch_faults absences = record {
   past = None;
   written = None;
-  is_writing = false;
+  is_writing = is_writing;
   write_faults = write_faults;
   fetch_faults = fetch_faults;
+  absences = absences;
+}
+
+-- what a shelf without files tells
+abbrev pub idle : ℕ → ℕ → ShelfTells
+idle write_faults fetch_faults = untold false write_faults fetch_faults 0
+
+-- what a shelf tells that was handed in with these files, and on which no call was made yet
+abbrev pub new_shelf : PastFiles → ShelfTells
+new_shelf past = record {
+  past = Some past;
+  written = Some [];
+  is_writing = false;
+  write_faults = 0;
+  fetch_faults = 0;
   absences = 0;
 }
 
@@ -117,3 +132,21 @@ CountsWriteFault old new = new ≡ record old { write_faults = min (old.write_fa
 -- one more fault of fetching, and nothing else
 abbrev pub CountsFetchFault : ShelfTells → ShelfTells → Type 0
 CountsFetchFault old new = new ≡ record old { fetch_faults = min (old.fetch_faults + 1) (2 ^ 64 - 1) }
+
+-- one more absence, and nothing else
+abbrev pub CountsAbsence : ShelfTells → ShelfTells → Type 0
+CountsAbsence old new = new ≡ record old { absences = min (old.absences + 1) (2 ^ 64 - 1) }
+
+-- What a writing call does exactly, where after an error no more than a fault of writing is counted: there is a new
+-- file, the last one is longer, or the last one is sealed.
+abbrev pub MakesFile : {T E : Type 0} → List ℕ → ShelfTells → ShelfTells → Result T E → Type 0
+MakesFile name old new result =
+    MatchResult result (λ _. new ≡ record old { written = option_map (λ files. files ++ new_file name ∷ []) old.written; is_writing = true }) (λ _. CountsWriteFault old new)
+
+abbrev pub LengthensLast : {T E : Type 0} → List ℕ → ShelfTells → ShelfTells → Result T E → Type 0
+LengthensLast bytes old new result =
+    MatchResult result (λ _. new ≡ record old { written = option_map (λ files. with_last (grown bytes) files) old.written }) (λ _. CountsWriteFault old new)
+
+abbrev pub SealsLast : {T E : Type 0} → ShelfTells → ShelfTells → Result T E → Type 0
+SealsLast old new result =
+    MatchResult result (λ _. new ≡ record old { written = option_map (λ files. with_last sealed_file files) old.written; is_writing = false }) (λ _. CountsWriteFault old new)

@@ -1,13 +1,19 @@
 //! The outside world as the program sees it: a source of bytes, a sink for bytes, and a shelf of files.
 //!
 //! Each trait says what its calls do to what the object tells, and counts the object's faults: an answer `Failed`
-//! comes only where the count rose in that call. `specs/` has the words: `Counts`, `Reads`, `Writes`, `Files`, `Devices`.
-//! The devices in memory fail at the calls that they are told to; those of the system tell no bytes.
+//! comes only where the count rose in that call. `specs/` has the words: `Counts`, `Reads`, `Writes`, `Files`, `Filing`
+//! for how far one file came, `StoredFiles` and `Devices` for those in memory. The devices in memory fail at the calls
+//! that they are told to; those of the system tell no bytes.
 #![tactic(auto)]
 
+mod copying;
 mod failed;
+mod files;
+mod folder_shelf;
+mod gate;
 mod idle_shelf;
 mod listed;
+mod memory_shelf;
 mod memory_sink;
 mod memory_source;
 mod reading;
@@ -18,7 +24,11 @@ mod standard;
 mod writing;
 
 pub use failed::{Failed, FetchFault};
+pub use files::{Bytes, Files, StoredFile, WrittenFile};
+pub use folder_shelf::FolderShelf;
+pub use gate::{Gate, OpenGate};
 pub use idle_shelf::IdleShelf;
+pub use memory_shelf::MemoryShelf;
 pub use memory_sink::MemorySink;
 pub use memory_source::MemorySource;
 pub use reading::{ReadError, read_all};

@@ -3,6 +3,7 @@ ghost use Rattle.std.specs.Prelude.{◌≡◌, ℕ, ◌+◌, ◌-◌, ◌^◌, �
 ghost use Rattle.std.specs.Io.KnownBytes.{prepend_known, IsAtEnd};
 ghost use Rattle.cello_io.specs.Counts.{HasCause, CountsErrors};
 
+use crate::copying::copy_front;
 use crate::listed::is_listed;
 use crate::{Failed, Source};
 
@@ -77,14 +78,4 @@ impl Source for MemorySource {
         self.has_ended = count == 0;
         Ok(count)
     }
-}
-
-// Copies as many bytes as both have from the front of one to the front of the other.
-fn copy_front(from: &[u8], to: &mut [u8]) -> usize
-    ensures count { result ≡ min (length from.now) (length to.old) }
-    ensures copied { take result to.new ≡ take result from.now }
-{
-    let count = from.len().min(to.len());
-    to[..count].copy_from_slice(&from[..count]);
-    count
 }

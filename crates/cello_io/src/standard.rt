@@ -144,7 +144,7 @@ impl Sink for ErrSink {
 }
 
 // How many bytes a write took. One that failed is counted, and so is one that took nothing.
-fn taken(write: io::Result<usize>, faults: &mut u64) -> Result<usize, Failed>
+pub(crate) fn taken(write: io::Result<usize>, faults: &mut u64) -> Result<usize, Failed>
     ensures taken { IfOk result (λ count. (0 < count) × (write ≡ Ok count)) }
     ensures cause { HasCause faults.old faults.new result }
     ensures counted { CountsErrors faults.old faults.new result }
