@@ -3,3 +3,4 @@ pub mod Events
 pub mod Deliveries
 pub mod Flights
 pub mod Driving
+mod Picking

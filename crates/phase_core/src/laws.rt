@@ -2,6 +2,7 @@
 
 ghost use Rattle.std.specs.Prelude.{◌≡◌, ℕ, ◌+◌, ◌<◌, ◌≤◌, List, length};
 ghost use Rattle.phase_core.specs.Machine.{CoreState, Event, Handles, Delivers, RunsPlainly, start_state};
+ghost use Rattle.phase_core.specs.Picks.{RunsByPicks};
 
 use crate::phase::Phase;
 
@@ -32,4 +33,9 @@ pub fn one_plain_run<P: Phase>()
     ensures reached_from_the_start { (p : P.Problem) (cells : List P.Cell) → P.begins p cells → (count : ℕ) × (t : CoreState P.Cell P.Msg) × RunsPlainly (P.react p) (start_state P.start cells) count t × (count ≤ P.start_weight p) }
     ensures count { (p : P.Problem) (s t u : CoreState P.Cell P.Msg) (m n : ℕ) → RunsPlainly (P.react p) s m t → RunsPlainly (P.react p) s n u → m ≡ n }
     ensures cells { (p : P.Problem) (s t u : CoreState P.Cell P.Msg) (m n : ℕ) → RunsPlainly (P.react p) s m t → RunsPlainly (P.react p) s n u → t.cells ≡ u.cells }
+{}
+
+/// A run by picks is a run of the core machine of at most as many events, so what holds of every run holds of it.
+pub fn a_run_by_picks_is_a_run<P: Phase>()
+    ensures runs { (p : P.Problem) (s t : CoreState P.Cell P.Msg) (picks : List ℕ) → RunsByPicks (P.react p) s picks t → (events : List Event) × Delivers (P.react p) s events t × (length events ≤ length picks) }
 {}

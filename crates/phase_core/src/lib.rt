@@ -11,6 +11,7 @@ mod flight;
 mod laws;
 mod outbox;
 mod phase;
+mod picked;
 mod quiet;
 #[cfg(test)]
 mod ring;
@@ -20,8 +21,10 @@ mod tests;
 pub use delivery::drive;
 pub use envelope::Envelope;
 pub use laws::{
-    every_envelope_is_handled, every_run_from_the_start_keeps, every_run_keeps, one_plain_run,
+    a_run_by_picks_is_a_run, every_envelope_is_handled, every_run_from_the_start_keeps,
+    every_run_keeps, one_plain_run,
 };
 pub use outbox::Outbox;
 pub use phase::Phase;
+pub use picked::{Delivered, deliver};
 pub use quiet::Quiet;
