@@ -1,0 +1,6 @@
+//! Phases whose cells owe messages: on its start a cell sends what it owes, made of its own data, and a receiver puts
+//! each message in place once. The laws of a phase are proved here once for all of them.
+//! A phase of this form gives a `Plan` and proves the facts of `IsPlan` (specs/Plans.antt). It takes its invariant and
+//! its weight from specs/Holds.antt and cites its ten laws from specs/Lemmas/OwingLaws.antt. What stands when nothing
+//! is in flight is told by specs/Rest.antt; each phase says by it what its cells are then. There is no code here.
+#![tactic(auto)]
