@@ -1,0 +1,9 @@
+use Rattle.std.proofs.Common.{◌≡◌, ℕ, ◌+◌, ◌<◌, slice_index}
+use Rattle.ghost_pieces.specs.Lemmas.Parts.{further}
+use Rattle.ghost_pieces.proofs.filled_rows.copy_cells.Given as goal
+
+abbrev pub invariant-loop-i : goal.invariant-loop-i
+invariant-loop-i l = record {
+  row : (j : ℕ) → j < l.i → slice_index l.out (l.at + j) ≡ slice_index l.q (l.first + further l.x.start l.x.runs j);
+  earlier : (j : ℕ) → j < l.at → slice_index l.out j ≡ slice_index l.initial.out j;
+}
