@@ -1,0 +1,11 @@
+-- A first cell for each block so far.
+use Rattle.std.proofs.Common.{◌≡◌, length}
+use Rattle.std.specs.Vec.Iter.{into_iter_items, into_iter_len}
+use Rattle.refresh_phase.proofs.FirstBlocks.{Walks}
+use Rattle.refresh_phase.proofs.first_cells.first_cells.Given as goal
+
+abbrev pub invariant-loop-block : goal.invariant-loop-block
+invariant-loop-block l = record {
+  walks : Walks l.set.grid l.set.places l.fn.blocks.items l.cells.items (into_iter_items l.block-iterator);
+  long : into_iter_len l.block-iterator ≡ length (into_iter_items l.block-iterator);
+}
