@@ -1,0 +1,25 @@
+-- Lemmas by subject.
+pub mod Quotients
+pub mod Shares
+pub mod Cells
+pub mod Links
+pub mod Provisional
+pub mod Advanced
+pub mod RimNotes
+pub mod Corrected
+pub mod Speeds
+pub mod Steps
+pub mod Beside
+pub mod Moves
+pub mod LineNumbers
+pub mod Limits
+pub mod Fours
+pub mod RowNumbers
+pub mod Zeros
+pub mod Insides
+pub mod PassSteps
+pub mod OuterFaces
+pub mod StateFluxes
+pub mod AdvancedBlocks
+pub mod NotedFluxes
+pub mod CorrectedBlocks
