@@ -1,2 +1,3 @@
--- Definitions that serve the proof of `opening`.
+-- Definitions that serve the proofs of `opening` and `levels_ok`.
 pub mod OwnLevel
+pub mod TouchAt

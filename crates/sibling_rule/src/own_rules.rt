@@ -38,7 +38,7 @@ fn opening_level(set: &LeafSet, leaf: Place, wish: Wish) -> u8
 }
 
 /// The level that a leaf's wish asks, at most the finest.
-fn wished_level(level: u8, wish: Wish, finest: u8) -> u8
+pub(crate) fn wished_level(level: u8, wish: Wish, finest: u8) -> u8
     requires { finest ≤ deepest }
     ensures { result ≡ min (wished_level wish level) finest }
 {
@@ -51,7 +51,7 @@ fn wished_level(level: u8, wish: Wish, finest: u8) -> u8
 }
 
 /// Whether a leaf is no root and one of its sibling places is no leaf.
-fn is_lone(set: &LeafSet, leaf: Place) -> bool
+pub(crate) fn is_lone(set: &LeafSet, leaf: Place) -> bool
     ensures { IsTrue result ↔ IsLone set.now.places leaf }
 {
     let Some(parent) = leaf.parent() else {
