@@ -1,0 +1,8 @@
+-- The wish of the planes that have been looked at.
+use Rattle.std.proofs.Common.{◌≡◌}
+use Rattle.block_fields.specs.Blocks.{seen_at}
+use Rattle.criteria.specs.Lemmas.CellWishes.{plane_wish, wish_below}
+use Rattle.criteria.proofs.deciding.cells_wish.Given as goal
+
+abbrev pub invariant-loop-z : goal.invariant-loop-z
+invariant-loop-z l = l.wish ≡ wish_below l.z (plane_wish l.block.edge (seen_at l.block) l.test)

@@ -1,0 +1,4 @@
+-- Definitions that serve proofs.
+pub mod Bounds
+pub mod CellWishes
+pub mod Rows
