@@ -1,0 +1,2 @@
+-- What contracts of the ledger cite.
+pub mod Ledgers
