@@ -1,5 +1,5 @@
 -- The bytes of a field file, number by number, field by field, and leaf by leaf.
-use Rattle.std.proofs.Common.{◌≡◌, ℕ, suc, ◌+◌, ◌<◌, ◌≤◌, List, [], ◌∷◌, ◌++◌, length, map, take, drop, get_or, Some, slice_get, slice_index_or, take-append-drop, refl, sym, ap, subst, ◌∙◌, arith}
+use Rattle.std.proofs.Common.{◌≡◌, ℕ, ◌+◌, ◌<◌, ◌≤◌, List, [], ◌∷◌, ◌++◌, length, map, take, drop, get_or, Some, slice_get, slice_index_or, take-append-drop, refl, sym, ap, subst, ◌∙◌, arith}
 use Rattle.std.specs.Int.{bytes_high_first}
 use Rattle.std.specs.List.{flat_map, zip}
 use Rattle.std.proofs.Math.Nat.{mul-le-mul, one-le-pow}
@@ -9,7 +9,7 @@ use Rattle.block_index.specs.Places.{Cube, Grid, IsDomain, IsInside, packed}
 use Rattle.leaf_set.specs.Meshes.{IsMesh}
 use Rattle.leaf_set.specs.Tiling.{IsTiling, Tiling}
 use Rattle.block_fields.specs.Blocks.{BlockState}
-use Rattle.block_fields.specs.BlockStates.{AreBlocksOf, IsBlockOf, state_of}
+use Rattle.block_fields.specs.BlockStates.{AreBlocksOf, state_of}
 use Rattle.mesh_output.specs.FieldFiles.{field_bytes, leaf_numbers}
 
 -- numbers of 8 bytes, those of some fields, those of a block, and those of some blocks

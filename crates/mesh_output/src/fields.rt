@@ -1,18 +1,21 @@
 //! The file of a mesh's fields.
-ghost use Rattle.std.specs.Prelude.{◌≡◌, ℕ, [], ◌∷◌, ◌≤◌, length};
+ghost use Rattle.std.specs.Prelude.{◌≡◌, ℕ, [], ◌∷◌, ◌≤◌, length, IsFalse};
 ghost use Rattle.std.specs.Int.{bytes_high_first};
 ghost use Rattle.std.specs.List.{flat_map};
 ghost use Rattle.block_fields.specs.Blocks.{IsBlock};
 ghost use Rattle.block_fields.specs.BlockStates.{AreBlocksOf, state_of};
 ghost use Rattle.cello_io.specs.Counts.{HasCause};
+ghost use Rattle.cello_io.specs.Filing.{WritesFile};
 ghost use Rattle.cello_io.specs.Writes.{Wrote};
 ghost use Rattle.mesh_output.specs.FieldFiles.{field_bytes, leaf_numbers};
 ghost use Rattle.mesh_output.specs.Lemmas.Pages.{Puts};
 
+use crate::Pen;
 use crate::page::{Page, make_room};
 use block_fields::Block;
 use byteorder::{BigEndian, ByteOrder};
-use cello_io::{Failed, Sink, write_all};
+use cello_io::{Failed, Shelf, Sink, write_all};
+use cello_num::Name;
 use leaf_set::LeafSet;
 
 /// The most numbers that are put on a page at once, and how many bytes these are.
@@ -45,6 +48,24 @@ pub fn write_fields<K: Sink>(
         put_leaf(block, &mut page, sink)?;
     }
     write_all(sink, page.bytes())
+}
+
+/// Makes the file of fields of blocks, which are those of the set's leaves in order, all of one size.
+pub fn write_fields_file<H: Shelf>(
+    cycle: u32,
+    set: &LeafSet,
+    blocks: &[Block],
+    name: Name,
+    shelf: &mut H,
+) -> Result<(), Failed>
+    requires none_open { IsFalse (H.tells shelf.old).is_writing }
+    requires blocks { (n : ℕ) × (fields : ℕ) × (depth : ℕ) × AreBlocksOf set.now.places n fields depth blocks.now }
+    ensures filed { (n fields depth : ℕ) → AreBlocksOf set.now.places n fields depth blocks.now →
+        WritesFile name (field_bytes cycle (state_of set.now.grid n fields blocks.now)) (H.tells shelf.old) (H.tells shelf.new) result }
+{
+    shelf.create(name)?;
+    write_fields(cycle, set, blocks, &mut Pen::on(shelf))?;
+    shelf.seal()
 }
 
 /// The page that a file begins with.

@@ -9,7 +9,7 @@ use cello_io::{Failed, Sink, write_all};
 use text_line::{LINE_ROOM, Text};
 
 /// The most bytes that are written at once.
-const PAGE_ROOM: usize = 4096;
+const PAGE_ROOM: usize = 32_768;
 
 /// Lines that aren't written yet.
 pub type Page = Text<PAGE_ROOM>;

@@ -5,7 +5,7 @@ use Rattle.cello_io.specs.Writes.{GrewByPart}
 
 -- the most bytes that are written at once
 abbrev pub page_room : ℕ
-page_room = 4096
+page_room = 32768
 
 -- Of these bytes a part was written, and the others stand in the page.
 pub record Holds (old new : Option (List ℕ)) (bytes page : List ℕ) : Type 0 where

@@ -3,9 +3,8 @@ use Rattle.std.proofs.Common.{◌+◌, ◌++◌, drop, subst, ◌∙◌, arith}
 use Rattle.cello_io.specs.Writes.{GrewByPart, Wrote}
 use Rattle.block_fields.specs.BlockStates.{state_of}
 use Rattle.mesh_output.specs.FieldFiles.{field_bytes}
-use Rattle.mesh_output.specs.Lemmas.Pages.{Holds}
 use Rattle.mesh_output.proofs.FieldFiles.{block_bytes, blocks_bytes, blocks_bytes-next, blocks_bytes-end, some_block, field_bytes-blocks}
-use Rattle.mesh_output.proofs.Pages.{Wrote-from_err, Holds-all, Holds-wrote}
+use Rattle.mesh_output.proofs.Pages.{Wrote-from_err, Holds-wrote}
 use Rattle.mesh_output.proofs.Puts.{Holds-put, Holds-failed, Holds-end}
 use Rattle.mesh_output.proofs.fields.write_fields.Goals as goal
 
