@@ -1,0 +1,6 @@
+-- What contracts of checkpoints cite.
+pub mod Parts
+pub mod SavedStates
+pub mod Spelling
+pub mod Examples
+pub mod Lemmas
