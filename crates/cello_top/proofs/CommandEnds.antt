@@ -1,22 +1,23 @@
 -- How a command ends, from how its steps end.
 use Rattle.std.proofs.Common.{◌≡◌, ℕ, Bool, List, Option, Some, None, Result, Ok, Err, refl, sym, ap, subst, ◌∙◌, inl, inr, append-nil}
-use Rattle.std.specs.Prelude.{IfErr, IsErrAnd}
+use Rattle.std.specs.Prelude.{IfErr, IsErrAnd, T}
+use Rattle.std.proofs.lemmas.Option.{none-some}
 use Rattle.std.specs.Io.KnownBytes.{append_known}
 use Rattle.cello_io.specs.Writes.{GrewByPart}
 use Rattle.cello_io.proofs.WriteLemmas.{append_known-nil}
 use Rattle.params_check.specs.Parameters.{Parameters}
 use Rattle.run_core.specs.declared.fault.RunFault.{RunFault}
-use Rattle.run_core.specs.Runs.{RunState, RunEnds}
 use Rattle.cello_top.specs.declared.fault.Fault.{Fault}
 use Rattle.cello_top.specs.declared.fault.Fault.TheVariants.{ReadFault, WriteFault}
+use Rattle.cello_top.specs.declared.fault_class.FaultClass.{FaultClass}
 use Rattle.cello_top.specs.declared.fault_class.FaultClass.TheVariants.{Text, Limit}
 use Rattle.cello_top.specs.declared.words.Command.{Command}
 use Rattle.cello_top.specs.declared.words.Command.TheVariants.{Solo, Check}
 use Rattle.cello_top.specs.Words.{IsSolo, IsCheck, IsCommand}
-use Rattle.cello_top.specs.Faults.{fault_of}
+use Rattle.cello_top.specs.Faults.{CameToWrite, class_ending, fault_of}
 use Rattle.cello_top.specs.Texts.{unbuilt}
-use Rattle.cello_top.specs.Answers.{other_text, checked, not_built, run, refusal, run_answer, text_answer, bytes_of, report}
-use Rattle.cello_top.specs.Lemmas.CommandSteps.{IsOf, call_saw, ReadParameters, ReadingEnds, reading_text, reading_source, reading_memory, AnswersRead, CommandEnds, command_answered, command_source, command_sink, command_memory, RanWritten, RunningEnds, running_unbuilt, running_limit, running_sink, running_memory}
+use Rattle.cello_top.specs.Answers.{other_text, checked, not_built, run, refusal, run_answer, text_answer}
+use Rattle.cello_top.specs.Lemmas.CommandSteps.{IsOf, call_saw, ReadParameters, ReadingEnds, reading_text, reading_source, reading_memory, AnswersRead, AnswersReadInPart, CommandEnds, command_answered, command_source, command_sink, command_memory, RanInPart, RanWritten, RunningEnds, running_unbuilt, running_limit, running_sink, running_memory}
 use Rattle.cello_top.proofs.FaultClasses.{text-class, text-answered, text-saw, unbuilt-class, limit-class, limit-answered, limit-saw, other-class}
 
 -- of two facts about an error
@@ -46,7 +47,7 @@ module _ (words : List (List ℕ)) (old new : Option (List ℕ)) (ended : Bool) 
         written = same ∙ sym (append_known-nil before);
       })
   reading-ends set same fault (reading_source e) = command_source e
-  reading-ends set same fault (reading_memory e) = command_memory e
+  reading-ends set same fault (reading_memory e) = command_memory e (inl same)
 
   pub reading-ends-so : IsCommand words → after ≡ before → (fault found : Fault) → fault ≡ found → ReadingEnds old new ended found
       → CommandEnds words fault (call_saw old new ended before after)
@@ -95,6 +96,15 @@ module _ (words : List (List ℕ)) (old new : Option (List ℕ)) (ended : Bool) 
           written = h.written;
         })
 
+    ran-in_part : IsSolo words → RanInPart p before after → AnswersReadInPart words (call_saw old new ended before after)
+    ran-in_part solo h = record {
+      bytes = r.bytes;
+      read = r.read;
+      answer = run_answer p h.state h.limit;
+      is = run p h.state h.limit solo r.parameters h.built h.ends refl;
+      part = h.part;
+    }
+
     pub run-ends : IsSolo words → (fault : Fault) → RunningEnds p before after fault → CommandEnds words fault (call_saw old new ended before after)
     run-ends solo fault (running_unbuilt some same) =
         command_answered (text-answered fault (unbuilt-class p fault some)) (text-saw fault (unbuilt-class p fault some)) (record {
@@ -106,25 +116,8 @@ module _ (words : List (List ℕ)) (old new : Option (List ℕ)) (ended : Bool) 
           written = same ∙ sym (append_known-nil before);
         })
     run-ends solo fault (running_limit limit e h) = subst (λ (f : Fault). CommandEnds words f (call_saw old new ended before after)) (sym e) (limit-ends solo limit h)
-    run-ends solo fault (running_sink e h) =
-        command_sink e (record {
-          bytes = r.bytes;
-          read = r.read;
-          answer = run_answer p h.state h.limit;
-          is = run p h.state h.limit solo r.parameters h.built h.ends refl;
-          part = h.part;
-        })
-    run-ends solo fault (running_memory e) = command_memory e
-
--- a run that a limit ended
-pub ran-limited : (p : Parameters) (before after : Option (List ℕ)) (s : RunState) (found : Option RunFault) (limit : RunFault) → found ≡ Some limit
-    → unbuilt p ≡ None → RunEnds p s found → after ≡ append_known before (bytes_of (report p s found)) → RanWritten p (Some limit) before after
-ran-limited p before after s found limit is built ends written = record {
-  built = built;
-  state = s;
-  ends = subst (RunEnds p s) is ends;
-  written = written ∙ ap (λ (o : Option RunFault). append_known before (bytes_of (report p s o))) is;
-}
+    run-ends solo fault (running_sink e h) = command_sink e (ran-in_part solo h)
+    run-ends solo fault (running_memory e h) = command_memory e (inr (ran-in_part solo h))
 
 -- what isn't built is no fault of the sink
 pub unbuilt-not-write : (p : Parameters) (f : Fault) → unbuilt p ≡ Some f → (r : Result ℕ Fault) → r ≡ Err f → r ≡ Err WriteFault → ⊥
@@ -138,7 +131,20 @@ running-not-read p before after fault (running_unbuilt some same) e = other-clas
 running-not-read p before after fault (running_limit limit is h) e =
     other-class (fault_of limit) ReadFault Limit (limit-class p h.state limit h.ends) (λ h. cc) (sym is ∙ e)
 running-not-read p before after fault (running_sink is h) e = cc
-running-not-read p before after fault (running_memory is) e = cc
+running-not-read p before after fault (running_memory is h) e = cc
+
+-- a run that is built ends after it can have come to write
+came-to-write : (p : Parameters) (before after : Option (List ℕ)) (fault : Fault) → unbuilt p ≡ None → RunningEnds p before after fault → CameToWrite (Some fault)
+came-to-write p before after fault built (running_unbuilt some same) = absurd (none-some fault (sym built ∙ some))
+came-to-write p before after fault built (running_limit limit is h) =
+    subst (λ (f : Fault). CameToWrite (Some f)) (sym is) (subst (λ (k : FaultClass). T (class_ending k).wrote) (sym (limit-class p h.state limit h.ends)) tt)
+came-to-write p before after fault built (running_sink is h) = subst (λ (f : Fault). CameToWrite (Some f)) (sym is) tt
+came-to-write p before after fault built (running_memory is h) = subst (λ (f : Fault). CameToWrite (Some f)) (sym is) tt
+
+pub run-unwritten : (p : Parameters) (before after : Option (List ℕ)) (same : Type 0) (r : Result ℕ Fault) → unbuilt p ≡ None → IfErr r (RunningEnds p before after)
+    → IfErr r (λ fault. (CameToWrite (Some fault) → ⊥) → same)
+run-unwritten p before after same (Ok n) built ends = tt
+run-unwritten p before after same (Err f) built ends = λ not. absurd (not (came-to-write p before after f built ends))
 
 pub run-not-read : (p : Parameters) (before after : Option (List ℕ)) (r : Result ℕ Fault) → IfErr r (RunningEnds p before after) → r ≡ Err ReadFault → ⊥
 run-not-read p before after (Ok n) ends e = cc

@@ -2,7 +2,8 @@
 use Rattle.std.proofs.Common.{◌≡◌, ℕ, Bool, List, take, Option, Some, None, refl, sym, ap, subst, ◌∙◌, ◌⊎◌, inl, inr}
 use Rattle.std.specs.Prelude.{IfSome}
 use Rattle.std.proofs.lemmas.Option.{same_Some, none-some}
-use Rattle.cello_io.proofs.WriteLemmas.{append_known-nil}
+use Rattle.cello_io.specs.Writes.{GrewByPart}
+use Rattle.cello_io.proofs.WriteLemmas.{append_known-nil, grew_none}
 use Rattle.params_check.specs.Parameters.{Parameters}
 use Rattle.run_core.specs.PlainCounts.{HandlesPlainly}
 use Rattle.run_core.specs.Runs.{MeetsNoLimit}
@@ -14,10 +15,11 @@ use Rattle.cello_top.specs.declared.words.Command.TheVariants.{Solo, Check}
 use Rattle.cello_top.specs.Words.{IsSolo, IsCheck, IsCommand}
 use Rattle.cello_top.specs.Faults.{IsAnswered, SawText}
 use Rattle.cello_top.specs.Texts.{HasParameters, unbuilt}
-use Rattle.cello_top.specs.Answers.{Answer, IsAnswer, other_words, other_text, checked, not_built, run, refusal}
+use Rattle.cello_top.specs.Answers.{Answer, IsAnswer, other_words, other_text, checked, not_built, run, refusal, bytes_of}
 use Rattle.cello_top.specs.Solo.{ReadOut, Answers, AnswersInPart, read_limit}
-use Rattle.cello_top.specs.Lemmas.CommandSteps.{IsOf, call_saw, AnswersRead, CommandEnds, command_answered, command_source, command_sink, command_memory, CommandHandles}
+use Rattle.cello_top.specs.Lemmas.CommandSteps.{IsOf, call_saw, AnswersRead, AnswersReadInPart, CommandEnds, command_answered, command_source, command_sink, command_memory, CommandHandles}
 use Rattle.cello_top.proofs.Texts.{front_HasParameters, front_HasTextFault, HasParameters-one}
+use Rattle.cello_top.proofs.AnswerExists.{answer_exists}
 use Rattle.cello_top.proofs.OneAnswer.{completes, completes_check, solo_or_check}
 
 IfSome-from : {A : Type 0} (P : A → Type 0) (o : Option A) → ((x : A) → o ≡ Some x → P x) → IfSome o P
@@ -88,24 +90,40 @@ module _ (words : List (List ℕ)) (old new : Option (List ℕ)) (ended : Bool) 
         go all told (command_answered settles seen a) settled = answers (Some fault) outcome is all told a
         go all told (command_source e) settled = absurd (subst (λ (f : Fault). IsAnswered (Some f)) e settled)
         go all told (command_sink e a) settled = absurd (subst (λ (f : Fault). IsAnswered (Some f)) e settled)
-        go all told (command_memory e) settled = absurd (subst (λ (f : Fault). IsAnswered (Some f)) e settled)
+        go all told (command_memory e h) settled = absurd (subst (λ (f : Fault). IsAnswered (Some f)) e settled)
 
     failed_is : (g : Fault) → outcome.fault ≡ Some g → fault ≡ g
     failed_is g e = same_Some fault g (sym is ∙ e)
 
+    -- a device or want of memory is no answer
+    not-answered : IsAnswered (Some fault) → (outcome.fault ≡ Some WriteFault) ⊎ (outcome.fault ≡ Some Memory) → ⊥
+    not-answered settles (inl e) = subst (λ (f : Fault). IsAnswered (Some f)) (failed_is WriteFault e) settles
+    not-answered settles (inr e) = subst (λ (f : Fault). IsAnswered (Some f)) (failed_is Memory e) settles
+
+    not-source : fault ≡ ReadFault → (outcome.fault ≡ Some WriteFault) ⊎ (outcome.fault ≡ Some Memory) → ⊥
+    not-source is (inl e) = let same : fault ≡ WriteFault = failed_is WriteFault e in absurd cc
+    not-source is (inr e) = let same : fault ≡ Memory = failed_is Memory e in absurd cc
+
     pub ends-part : CommandEnds words fault (call_saw old new ended before after)
-        → IfSome old (λ bytes. outcome.fault ≡ Some WriteFault → AnswersInPart words bytes before after)
-    ends-part ends = IfSome-from _ old (λ all told failed. go all told ends (failed_is WriteFault failed))
+        → IfSome old (λ bytes. (outcome.fault ≡ Some WriteFault) ⊎ (outcome.fault ≡ Some Memory) → AnswersInPart words bytes before after)
+    ends-part ends = IfSome-from _ old (λ all told cut. go all told ends cut)
       where
-        go : (all : List ℕ) → old ≡ Some all → CommandEnds words fault (call_saw old new ended before after) → fault ≡ WriteFault → AnswersInPart words all before after
-        go all told (command_answered settles seen a) failed = absurd (subst (λ (f : Fault). IsAnswered (Some f)) failed settles)
-        go all told (command_source e) failed = absurd cc
-        go all told (command_memory e) failed = absurd cc
-        go all told (command_sink e a) failed = record {
+        in_part : (all : List ℕ) → old ≡ Some all → AnswersReadInPart words (call_saw old new ended before after) → AnswersInPart words all before after
+        in_part all told a = record {
           answer = a.answer;
           is = front_IsAnswer words all a.bytes a.answer (read_are old new ended a.bytes all told a.read) a.is;
           part = a.part;
         }
+
+        go : (all : List ℕ) → old ≡ Some all → CommandEnds words fault (call_saw old new ended before after)
+            → (outcome.fault ≡ Some WriteFault) ⊎ (outcome.fault ≡ Some Memory) → AnswersInPart words all before after
+        go all told (command_answered settles seen a) cut = absurd (not-answered settles cut)
+        go all told (command_source e) cut = absurd (not-source e cut)
+        go all told (command_sink e a) cut = in_part all told a
+        go all told (command_memory e (inl nothing)) cut =
+            let h = answer_exists words all in
+            record { answer = h.0; is = h.1; part = subst (λ o. GrewByPart before o (bytes_of h.0.actions)) (sym nothing) (grew_none before (bytes_of h.0.actions)) }
+        go all told (command_memory e (inr a)) cut = in_part all told a
 
     pub ends-read : CommandEnds words fault (call_saw old new ended before after) → SawText outcome.fault → (bytes : List ℕ) × ReadOut old new ended bytes
     ends-read ends saw = go ends (subst SawText is saw)
@@ -114,7 +132,7 @@ module _ (words : List (List ℕ)) (old new : Option (List ℕ)) (ended : Bool) 
         go (command_answered settles seen a) saw = (a.bytes, a.read)
         go (command_source e) saw = absurd (subst (λ (f : Fault). SawText (Some f)) e saw)
         go (command_sink e a) saw = (a.bytes, a.read)
-        go (command_memory e) saw = absurd (subst (λ (f : Fault). SawText (Some f)) e saw)
+        go (command_memory e h) saw = absurd (subst (λ (f : Fault). SawText (Some f)) e saw)
 
     -- an end without a fault where the answer to all has none
     module _ (read_rose write_rose : Type 0) (read_cause : fault ≡ ReadFault → read_rose) (write_cause : fault ≡ WriteFault → write_rose) where
@@ -124,7 +142,7 @@ module _ (words : List (List ℕ)) (old new : Option (List ℕ)) (ended : Bool) 
           inl (is ∙ a.same_fault ∙ well a.answer (front_IsAnswer words all a.bytes a.answer (read_are old new ended a.bytes all told a.read) a.is))
       completed all told well no_read no_write (command_source e) = absurd (no_read (read_cause e))
       completed all told well no_read no_write (command_sink e a) = absurd (no_write (write_cause e))
-      completed all told well no_read no_write (command_memory e) = inr (is ∙ ap Some e)
+      completed all told well no_read no_write (command_memory e h) = inr (is ∙ ap Some e)
 
       pub ends-complete : CommandEnds words fault (call_saw old new ended before after)
           → IfSome old (λ bytes. (p : Parameters) → IsSolo words → HasParameters bytes p → unbuilt p ≡ None → MeetsNoLimit p → (read_rose → ⊥) → (write_rose → ⊥)

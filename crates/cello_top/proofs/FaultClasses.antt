@@ -1,19 +1,18 @@
 -- What the faults of texts, of what isn't built and of runs come from.
 use Rattle.std.proofs.Common.{◌≡◌, ℕ, suc, List, Bool, true, false, Option, Some, None, cond, refl, sym, ap, subst, ◌∙◌}
 use Rattle.std.proofs.lemmas.Option.{same_Some, none-some}
-use Rattle.std.specs.List.{list_any}
 use Rattle.std.specs.Prelude.{codes, nat_lt, T}
 use Rattle.block_index.specs.Places.{Cube}
-use Rattle.params_check.specs.declared.criterion.Criterion.{Criterion}
+use Rattle.block_index.specs.declared.wish.Wish.{Wish}
 use Rattle.params_check.specs.Parameters.{Parameters}
 use Rattle.run_core.specs.declared.fault.RunFault.{RunFault}
-use Rattle.run_core.specs.Runs.{RunState, PassesLimit, of_level, of_blocks, RunEnds, after_all, at_limit}
+use Rattle.run_core.specs.Runs.{RunState, PassesLimit, phase_wishes, of_level, of_blocks, RunEnds, after_all, at_limit}
 use Rattle.cello_top.specs.declared.fault.Fault.{Fault}
 use Rattle.cello_top.specs.declared.fault.Fault.TheVariants.{Unbuilt}
 use Rattle.cello_top.specs.declared.fault_class.FaultClass.{FaultClass}
 use Rattle.cello_top.specs.declared.fault_class.FaultClass.TheVariants.{Text, Limit}
 use Rattle.cello_top.specs.Faults.{class_of, class_ending, fault_of, IsAnswered, SawText}
-use Rattle.cello_top.specs.Texts.{HasTextFault, of_syntax, of_parameters, looks_at_field, unbuilt, unbuilt_file}
+use Rattle.cello_top.specs.Texts.{HasTextFault, of_syntax, of_parameters, unbuilt, unbuilt_file}
 
 pub text-class : (text : List ℕ) (f : Fault) → HasTextFault text f → class_of f ≡ Text
 text-class text f (of_syntax x a e) = ap class_of e
@@ -39,11 +38,7 @@ file-IsOfText p =
 
 unbuilt-IsOfText : (p : Parameters) → IsOfText (unbuilt p)
 unfolding unbuilt
-unbuilt-IsOfText p =
-    let third : Option Fault = cond (nat_lt 0 p.cycles) (Some (Unbuilt (codes "Method") (codes "cycles"))) (unbuilt_file p) in
-    let samples : Bool = list_any (λ (k : Criterion). looks_at_field k.test) p.criteria in
-    let last : IsOfText third = chosen (nat_lt 0 p.cycles) (codes "Method") (codes "cycles") (unbuilt_file p) (file-IsOfText p) in
-    chosen samples (codes "Adapt") (codes "type") third last
+unbuilt-IsOfText p = chosen (nat_lt 0 p.cycles) (codes "Method") (codes "cycles") (unbuilt_file p) (file-IsOfText p)
 
 pub unbuilt-class : (p : Parameters) (f : Fault) → unbuilt p ≡ Some f → class_of f ≡ Text
 unbuilt-class p f e = subst IsOfText e (unbuilt-IsOfText p)
@@ -51,11 +46,11 @@ unbuilt-class p f e = subst IsOfText e (unbuilt-IsOfText p)
 -- the limit that ends a run
 pub limit-class : (p : Parameters) (s : RunState) (limit : RunFault) → RunEnds p s (Some limit) → class_of (fault_of limit) ≡ Limit
 limit-class p s limit (after_all runs none) = absurd (none-some limit (sym none))
-limit-class p s limit (at_limit phases f below runs passes is) = passed (suc phases) s.state.leaves f passes (same_Some limit f is)
+limit-class p s limit (at_limit phases f below runs passes is) = passed (suc phases) s.state.leaves (phase_wishes p (suc phases) s.state) f passes (same_Some limit f is)
   where
-    passed : (phase : ℕ) (mesh : List Cube) (f : RunFault) → PassesLimit p phase mesh f → limit ≡ f → class_of (fault_of limit) ≡ Limit
-    passed phase mesh f (of_level i place strict too none e) same = ap (λ (l : RunFault). class_of (fault_of l)) (same ∙ e)
-    passed phase mesh f (of_blocks levels keeps least many e) same = ap (λ (l : RunFault). class_of (fault_of l)) (same ∙ e)
+    passed : (phase : ℕ) (mesh : List Cube) (wishes : List Wish) (f : RunFault) → PassesLimit p phase mesh wishes f → limit ≡ f → class_of (fault_of limit) ≡ Limit
+    passed phase mesh wishes f (of_level i place strict too none e) same = ap (λ (l : RunFault). class_of (fault_of l)) (same ∙ e)
+    passed phase mesh wishes f (of_blocks levels keeps least many e) same = ap (λ (l : RunFault). class_of (fault_of l)) (same ∙ e)
 
 -- a fault of one class is none of another
 pub other-class : (f g : Fault) (k : FaultClass) → class_of f ≡ k → (k ≡ class_of g → ⊥) → f ≡ g → ⊥

@@ -7,8 +7,7 @@ use Rattle.std.proofs.lemmas.Option.{none-some, same_Some}
 use Rattle.block_fields.specs.States.{State}
 use Rattle.cello_io.specs.Writes.{GrewByPart, Wrote}
 use Rattle.cello_io.proofs.WriteLemmas.{grew_less, grew_within, written_then, wrote_then}
-use Rattle.block_index.specs.Places.{Cube}
-use Rattle.mesh_output.specs.Lines.{header_line, cycle_line, mesh_text, end_line}
+use Rattle.mesh_output.specs.Lines.{header_line, phase_line, cycle_line, mesh_text, end_line}
 use Rattle.cello_top.specs.Answers.{phase_lines, first_line, numbered_lines, opening_lines, cycle_lines, closing_lines, bytes_of}
 
 -- a result that is an error comes where a part was written
@@ -69,13 +68,31 @@ numbered-more line k old mid new xs i number x at is first second =
     ∙ ap (append_known old) (sym (numbered-taken line k xs i x at))
     ∙ ap (λ (n : ℕ). append_known old (bytes_of (numbered_lines line k (take n xs)))) (sym (add-one i))
 
--- the first line, and then those of the phases
-pub opening-less : (old new : Option (List ℕ)) (leaves : List ℕ) → GrewByPart old new header_line → GrewByPart old new (bytes_of (opening_lines leaves))
-opening-less old new leaves some = grew_less old new header_line (bytes_of (phase_lines leaves)) some
+-- more lines behind
+numbered-append : {A : Type 0} (line : ℕ → A → List ℕ) (k : ℕ) (xs ys : List A)
+    → bytes_of (numbered_lines line k (xs ++ ys)) ≡ bytes_of (numbered_lines line k xs) ++ bytes_of (numbered_lines line (k + length xs) ys)
+numbered-append line k [] ys =
+    let same : k ≡ k + 0 = omega arith in
+    ap (λ (n : ℕ). bytes_of (numbered_lines line n ys)) same
+numbered-append line k (x ∷ xs) ys =
+    let same : k + 1 + length xs ≡ k + suc (length xs) = omega arith in
+    let front = line k x in
+    let middle = bytes_of (numbered_lines line (k + 1) xs) in
+    ap (λ (l : List ℕ). front ++ l)
+    (numbered-append line (k + 1) xs ys ∙ ap (λ (n : ℕ). middle ++ bytes_of (numbered_lines line n ys)) same)
+    ∙ sym (append_assoc front middle (bytes_of (numbered_lines line (k + suc (length xs)) ys)))
 
-pub opening-then : {T E : Type 0} (old mid new : Option (List ℕ)) (leaves : List ℕ) (r : Result T E) → mid ≡ append_known old header_line
-    → Wrote mid new r (bytes_of (phase_lines leaves)) → Wrote old new r (bytes_of (opening_lines leaves))
-opening-then old mid new leaves r first second = wrote_then old mid new header_line (bytes_of (phase_lines leaves)) r first second
+-- the lines of more phases behind the first ones
+pub opening-append : (front more : List ℕ) → bytes_of (opening_lines (front ++ more)) ≡ bytes_of (opening_lines front) ++ bytes_of (numbered_lines phase_line (1 + length front) more)
+opening-append front more =
+    ap (λ (l : List ℕ). header_line ++ l) (numbered-append phase_line 1 front more)
+    ∙ sym (append_assoc header_line (bytes_of (phase_lines front)) (bytes_of (numbered_lines phase_line (1 + length front) more)))
+
+-- the line of one phase more
+pub opening-one : (front : List ℕ) (n number : ℕ) → number ≡ 1 + length front → bytes_of (opening_lines (front ++ n ∷ [])) ≡ bytes_of (opening_lines front) ++ phase_line number n
+opening-one front n number is =
+    opening-append front (n ∷ [])
+    ∙ ap (λ (l : List ℕ). bytes_of (opening_lines front) ++ l) (append-nil (phase_line (1 + length front) n) ∙ ap (λ (k : ℕ). phase_line k n) (sym is))
 
 -- the line of the cycle, and then those of the fields
 pub cycle-less : (old new : Option (List ℕ)) (n : ℕ) (names : List (List ℕ)) (s : State) → n ≡ length s.leaves → GrewByPart old new (cycle_line 0 n)
@@ -94,34 +111,22 @@ closing names s =
     ap (λ (l : List ℕ). bytes_of (cycle_lines names s) ++ l) (sym (append-nil (mesh_text s.leaves ++ end_line)))
     ∙ sym (flat_map-append (λ (piece : List ℕ). piece) (cycle_lines names s) ((mesh_text s.leaves ++ end_line) ∷ []))
 
--- the lines of the cycle, and then the list
-pub closing-less : (old new : Option (List ℕ)) (names : List (List ℕ)) (s : State) → GrewByPart old new (bytes_of (cycle_lines names s))
-    → GrewByPart old new (bytes_of (closing_lines names s))
-closing-less old new names s some =
-    subst (GrewByPart old new) (closing names s) (grew_less old new (bytes_of (cycle_lines names s)) (mesh_text s.leaves ++ end_line) some)
-
-pub closing-then : {T E : Type 0} (old mid new : Option (List ℕ)) (mesh : List Cube) (names : List (List ℕ)) (s : State) (r : Result T E) → s.leaves ≡ mesh
-    → mid ≡ append_known old (bytes_of (cycle_lines names s)) → Wrote mid new r (mesh_text mesh ++ end_line) → Wrote old new r (bytes_of (closing_lines names s))
-closing-then old mid new mesh names s r is first second =
-    subst (Wrote old new r) (closing names s)
-    (wrote_then old mid new (bytes_of (cycle_lines names s)) (mesh_text s.leaves ++ end_line) r first
-    (subst (λ (places : List Cube). Wrote mid new r (mesh_text places ++ end_line)) (sym is) second))
+-- the lines so far, and those of the cycle
+pub cycle-split : (leaves : List ℕ) (names : List (List ℕ)) (s : State)
+    → bytes_of (opening_lines leaves ++ cycle_lines names s) ≡ bytes_of (opening_lines leaves) ++ bytes_of (cycle_lines names s)
+cycle-split leaves names s = flat_map-append (λ (piece : List ℕ). piece) (opening_lines leaves) (cycle_lines names s)
 
 -- the first lines, and then the last
-split : (leaves : List ℕ) (names : List (List ℕ)) (s : State) → bytes_of (opening_lines leaves) ++ bytes_of (closing_lines names s)
-    ≡ bytes_of (opening_lines leaves ++ closing_lines names s)
-split leaves names s = sym (flat_map-append (λ (piece : List ℕ). piece) (opening_lines leaves) (closing_lines names s))
+pub closing-split : (leaves : List ℕ) (names : List (List ℕ)) (s : State)
+    → bytes_of (opening_lines leaves ++ closing_lines names s) ≡ bytes_of (opening_lines leaves) ++ bytes_of (closing_lines names s)
+closing-split leaves names s = flat_map-append (λ (piece : List ℕ). piece) (opening_lines leaves) (closing_lines names s)
 
-pub report-less : (old new : Option (List ℕ)) (leaves shown : List ℕ) (names : List (List ℕ)) (s : State) → shown ≡ leaves
-    → GrewByPart old new (bytes_of (opening_lines shown)) → GrewByPart old new (bytes_of (opening_lines leaves ++ closing_lines names s))
-report-less old new leaves shown names s is some =
-    subst (GrewByPart old new) (split leaves names s)
-    (grew_less old new (bytes_of (opening_lines leaves)) (bytes_of (closing_lines names s)) (subst (λ ls. GrewByPart old new (bytes_of (opening_lines ls))) is some))
-
-pub report-then : {T E : Type 0} (old mid new : Option (List ℕ)) (leaves shown : List ℕ) (names : List (List ℕ)) (s t : State) (r : Result T E) → shown ≡ leaves
-    → t ≡ s → mid ≡ append_known old (bytes_of (opening_lines shown)) → Wrote mid new r (bytes_of (closing_lines names t))
-    → Wrote old new r (bytes_of (opening_lines leaves ++ closing_lines names s))
-report-then old mid new leaves shown names s t r is same first second =
-    subst (Wrote old new r) (split leaves names s)
-    (wrote_then old mid new (bytes_of (opening_lines leaves)) (bytes_of (closing_lines names s)) r
-    (first ∙ ap (λ ls. append_known old (bytes_of (opening_lines ls))) is) (subst (λ (u : State). Wrote mid new r (bytes_of (closing_lines names u))) same second))
+-- the lines up to those of the cycle, and then the list
+pub ending : (leaves : List ℕ) (names : List (List ℕ)) (s : State)
+    → bytes_of (opening_lines leaves ++ cycle_lines names s) ++ (mesh_text s.leaves ++ end_line) ≡ bytes_of (opening_lines leaves ++ closing_lines names s)
+ending leaves names s =
+    let front = bytes_of (opening_lines leaves) in
+    ap (λ (l : List ℕ). l ++ (mesh_text s.leaves ++ end_line)) (cycle-split leaves names s)
+    ∙ append_assoc front (bytes_of (cycle_lines names s)) (mesh_text s.leaves ++ end_line)
+    ∙ ap (λ (l : List ℕ). front ++ l) (closing names s)
+    ∙ sym (closing-split leaves names s)

@@ -20,7 +20,7 @@ class_of WriteFault = Sink
 class_of Memory = Allocator
 
 -- How a call ends: its exit status; whether the answer to the words and the bytes says so, and no device or want of
--- memory; whether the call came as far as to look at the full text, and as far as to write.
+-- memory; whether the call came as far as to look at the full text, and whether it can have come as far as to write.
 pub record Ending : Type 0 where
   pub status : ℕ
   pub answered : Bool
@@ -37,7 +37,7 @@ class_ending Text = ending_row 2 true true false
 class_ending Limit = ending_row 3 true true true
 class_ending Source = ending_row 4 false false false
 class_ending Sink = ending_row 4 false true true
-class_ending Allocator = ending_row 5 false false false
+class_ending Allocator = ending_row 5 false false true
 
 -- without a fault, or by one
 abbrev pub ending_of : Option Fault → Ending
@@ -56,7 +56,7 @@ IsAnswered fault = T (ending_of fault).answered
 abbrev pub SawText : Option Fault → Type 0
 SawText fault = T (ending_of fault).saw_text
 
--- the call came as far as to write
+-- the call can have come as far as to write
 abbrev pub CameToWrite : Option Fault → Type 0
 CameToWrite fault = T (ending_of fault).wrote
 

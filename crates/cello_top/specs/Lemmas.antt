@@ -1,2 +1,3 @@
 -- Definitions that serve proofs alone.
 pub mod CommandSteps
+pub mod Engine

@@ -1,12 +1,9 @@
 -- The parameters of a text, or its first fault; and what parameters ask for that isn't built.
-use Rattle.std.specs.Prelude.{◌≡◌, ℕ, List, Bool, true, false, nat_lt, cond, codes, Option, Some, None, Ok, Err}
-use Rattle.std.specs.List.{list_any}
+use Rattle.std.specs.Prelude.{◌≡◌, ℕ, List, nat_lt, cond, codes, Option, Some, None, Ok, Err}
 use Rattle.params_syntax.specs.declared.tree.Group.{Group}
 use Rattle.params_syntax.specs.declared.fault.SyntaxFault.{SyntaxFault}
 use Rattle.params_check.specs.declared.fault.ParamFault.{ParamFault}
 use Rattle.params_syntax.specs.Reading.{Spells, HasFault}
-use Rattle.params_check.specs.declared.criterion.Test.{Test}
-use Rattle.params_check.specs.declared.criterion.Test.TheVariants.{Region, Mass, Slope, Contrast}
 use Rattle.params_check.specs.Parameters.{Parameters}
 use Rattle.params_check.specs.Walks.{parameters_of}
 use Rattle.cello_top.specs.declared.fault.Fault.{Fault}
@@ -23,13 +20,6 @@ pub data HasTextFault (text : List ℕ) (fault : Fault) : Type 0 where
   of_syntax : (f : SyntaxFault) → HasFault text f → fault ≡ Syntax f → HasTextFault text fault
   of_parameters : (groups : List Group) (f : ParamFault) → Spells text groups → parameters_of groups ≡ Err f → fault ≡ Param f → HasTextFault text fault
 
--- the test looks at a field
-abbrev pub looks_at_field : Test → Bool
-looks_at_field (Region low high level) = false
-looks_at_field (Mass field refine coarsen) = true
-looks_at_field (Slope field refine coarsen) = true
-looks_at_field (Contrast field refine coarsen) = true
-
 -- the first file that the parameters ask for
 unfoldable pub unbuilt_file : Parameters → Option Fault
 unbuilt_file p =
@@ -37,9 +27,6 @@ unbuilt_file p =
     (cond (nat_lt 0 p.fields_every) (Some (Unbuilt (codes "Output") (codes "fields")))
     (cond (nat_lt 0 p.checkpoint_every) (Some (Unbuilt (codes "Output") (codes "checkpoint"))) None))
 
--- The first thing that the parameters ask a run for and that isn't built: a criterion other than a box, a cycle, or a
--- file.
+-- The first thing that the parameters ask a run for and that isn't built: a cycle, or a file.
 unfoldable pub unbuilt : Parameters → Option Fault
-unbuilt p =
-    cond (list_any (λ k. looks_at_field k.test) p.criteria) (Some (Unbuilt (codes "Adapt") (codes "type")))
-    (cond (nat_lt 0 p.cycles) (Some (Unbuilt (codes "Method") (codes "cycles"))) (unbuilt_file p))
+unbuilt p = cond (nat_lt 0 p.cycles) (Some (Unbuilt (codes "Method") (codes "cycles"))) (unbuilt_file p)

@@ -4,20 +4,16 @@ ghost use Rattle.std.specs.Io.KnownBytes.{append_known};
 ghost use Rattle.cello_io.specs.Counts.{Rose};
 ghost use Rattle.cello_io.specs.Reads.{LostAtMost};
 ghost use Rattle.cello_io.specs.Writes.{GrewByPart};
-ghost use Rattle.run_core.specs.PlainCounts.{HandlesPlainly};
 ghost use Rattle.cello_top.specs.Faults.{CameToWrite};
 ghost use Rattle.cello_top.specs.Solo.{read_limit};
-ghost use Rattle.cello_top.specs.Lemmas.CommandSteps.{IsOf, call_saw, AnswersRead, CommandEnds, CommandHandles, RanWritten, RunningEnds};
+ghost use Rattle.cello_top.specs.Lemmas.CommandSteps.{IsOf, call_saw, AnswersRead, CommandEnds, CommandHandles};
 
+use crate::engine::run_parameters;
 use crate::fault::Fault;
 use crate::parameters::read_parameters;
-use crate::report::write_report;
-use crate::unbuilt::unbuilt;
 use crate::words::Command;
 use cello_io::{Failed, Sink, Source, write_all};
-use cello_num::Memory;
 use params_check::Params;
-use run_core::{Run, run_phases};
 use std::alloc::Global;
 
 /// Carries a command out. It answers how many messages were handled.
@@ -44,7 +40,7 @@ pub fn carry_out<S: Source, K: Sink>(
     let params = read_parameters(alloc, source)?;
     match command {
         Command::Check => write_text(&params, sink),
-        Command::Solo => run_parameters(alloc, &params, sink),
+        Command::Solo => run_parameters(alloc, params, sink),
     }
 }
 
@@ -61,32 +57,5 @@ fn write_text<K: Sink>(params: &Params, sink: &mut K) -> Result<u64, Fault>
     match write_all(sink, params.text()) {
         Ok(()) => Ok(0),
         Err(Failed) => Err(Fault::WriteFault),
-    }
-}
-
-/// Runs the parameters and writes the report.
-fn run_parameters<K: Sink>(alloc: Global, params: &Params, sink: &mut K) -> Result<u64, Fault>
-    ensures written { IfOk result (λ _. RanWritten params.now None (K.written sink.old) (K.written sink.new)) }
-    ensures handled { IfOk result (λ handled. HandlesPlainly params.now handled) }
-    ensures ended { IfErr result (RunningEnds params.now (K.written sink.old) (K.written sink.new)) }
-    ensures unwritten { IfErr result (λ fault. (CameToWrite (Some fault) → ⊥) → sink.new ≡ sink.old) }
-    ensures write_cause { IsErrOf result Fault.WriteFault → Rose (K.write_faults sink.old) (K.write_faults sink.new) }
-    ensures same_rest { K.rest sink.new ≡ K.rest sink.old }
-    ensures write_faults { K.write_faults sink.old ≤ K.write_faults sink.new }
-{
-    if let Some(fault) = unbuilt(params) {
-        return Err(fault);
-    }
-    let run = match run_phases(alloc, params) {
-        Ok(run) => run,
-        Err(Memory) => return Err(Fault::Memory),
-    };
-    if let Err(Failed) = write_report(params, &run, sink) {
-        return Err(Fault::WriteFault);
-    }
-    let Run { limit, handled, .. } = run;
-    match limit {
-        Some(limit) => Err(Fault::from(limit)),
-        None => Ok(handled),
     }
 }

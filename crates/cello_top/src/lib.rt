@@ -6,6 +6,7 @@
 #![tactic(auto)]
 
 mod commands;
+mod engine;
 mod fault;
 mod fault_class;
 mod fault_lines;
@@ -15,6 +16,7 @@ mod outcome;
 mod parameters;
 mod report;
 mod unbuilt;
+mod wishes;
 mod words;
 
 pub use fault::Fault;

@@ -32,8 +32,9 @@ pub fn solo<S: Source, K: Sink, H: Shelf>(
     // device failed or memory was refused.
     ensures answer { IfSome (S.left source.old) (λ bytes. IsAnswered result.fault →
         Answers (map string_bytes words.now) bytes result (K.written sink.old) (K.written sink.new)) }
-    // Where the sink failed, it has a part of the answer's bytes.
-    ensures part { IfSome (S.left source.old) (λ bytes. result.fault ≡ Some Fault.WriteFault →
+    // Where the sink failed or memory was refused, a part of the answer's bytes is new in the sink, or nothing.
+    ensures part { IfSome (S.left source.old) (λ bytes.
+        (result.fault ≡ Some Fault.WriteFault) ⊎ (result.fault ≡ Some Fault.Memory) →
         AnswersInPart (map string_bytes words.now) bytes (K.written sink.old) (K.written sink.new)) }
     // Words outside the set are refused, and then nothing is read or written.
     ensures usage { (result.fault ≡ Some Fault.Usage) ↔ (IsCommand (map string_bytes words.now) → ⊥) }

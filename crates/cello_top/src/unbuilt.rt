@@ -1,29 +1,11 @@
 //! What parameters can ask for that isn't built yet.
 ghost use Rattle.std.specs.Prelude.{◌≡◌, ◌≤◌, Some, length};
-ghost use Rattle.std.specs.List.{list_any};
-ghost use Rattle.cello_top.specs.Texts.{looks_at_field, unbuilt_file, unbuilt};
+ghost use Rattle.params_check.specs.Parameters.{IsParameters};
+ghost use Rattle.cello_top.specs.Texts.{unbuilt_file, unbuilt};
 
 use crate::fault::Fault;
 use cello_num::Name;
-use params_check::{Criterion, Params, Test};
-
-fn looks_at_field(test: &Test) -> bool
-    ensures looks { result ≡ looks_at_field test.now }
-{
-    match test {
-        Test::Region { .. } => false,
-        Test::Mass { .. } | Test::Slope { .. } | Test::Contrast { .. } => true,
-    }
-}
-
-/// Whether a criterion looks at a field.
-fn looks_at_fields(criteria: &[Criterion]) -> bool
-    ensures looks { result ≡ list_any (λ k. looks_at_field k.test) criteria.now }
-{
-    criteria
-        .iter()
-        .any(|criterion| looks_at_field(&criterion.test))
-}
+use params_check::Params;
 
 /// The fault that names a key of a group.
 fn not_built(group: &[u8], key: &[u8]) -> Option<Fault>
@@ -58,10 +40,8 @@ fn unbuilt_file(params: &Params) -> Option<Fault>
 #[tactic(auto, unfolding(crate::specs::Texts::unbuilt))]
 pub fn unbuilt(params: &Params) -> Option<Fault>
     ensures first { result ≡ unbuilt params.now }
+    ensures limits { IsParameters params.now }
 {
-    if looks_at_fields(params.criteria().items()) {
-        return not_built(b"Adapt", b"type");
-    }
     if params.cycles() > 0 {
         return not_built(b"Method", b"cycles");
     }

@@ -1,5 +1,4 @@
 -- Lemmas by subject.
-pub mod Limits
 pub mod LevelLimits
 pub mod Phases
 pub mod PhaseMeshes
@@ -8,3 +7,6 @@ pub mod RunExists
 pub mod PlainCounts
 pub mod RunTotals
 pub mod Steps
+pub mod Keeping
+pub mod Refreshing
+pub mod RunPrefixes

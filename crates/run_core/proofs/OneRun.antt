@@ -4,6 +4,7 @@ use Rattle.std.proofs.lemmas.Option.{same_Some}
 use Rattle.std.proofs.lemmas.Bool.{cases_order}
 use Rattle.std.specs.Prelude.{slice_get}
 use Rattle.block_index.specs.Places.{Cube}
+use Rattle.block_index.specs.declared.wish.Wish.{Wish}
 use Rattle.leaf_set.specs.LevelRules.{IsLeast}
 use Rattle.leaf_set.specs.NextMesh.{next_mesh}
 use Rattle.block_fields.specs.Samples.{adapted}
@@ -12,8 +13,7 @@ use Rattle.leaf_set.proofs.Solutions.{IsLeast-one}
 use Rattle.params_check.specs.Parameters.{Parameters}
 use Rattle.run_core.specs.declared.fault.RunFault.{RunFault}
 use Rattle.run_core.specs.declared.fault.RunFault.TheVariants.{LevelLimit, BlockLimit}
-use Rattle.run_core.specs.Wishes.{wishes_in}
-use Rattle.run_core.specs.Runs.{WishesTooFine, Decides, Adapts, PassesLimit, of_level, of_blocks, RunState, RunSteps, Runs, RunEnds, after_all, at_limit}
+use Rattle.run_core.specs.Runs.{WishesTooFine, Decides, Adapts, PassesLimit, PhasePasses, phase_wishes, of_level, of_blocks, RunState, RunSteps, Runs, RunEnds, after_all, at_limit}
 
 -- a state, and the limit that ended the run there, are others'
 record SameEnd (s t : RunState) (a b : Option RunFault) : Type 0 where
@@ -21,13 +21,13 @@ record SameEnd (s t : RunState) (a b : Option RunFault) : Type 0 where
   pub limit : a ≡ b
 
 module _ (p : Parameters) where
-  levels-one : (phase : ℕ) (mesh : List Cube) (levels others : List ℕ) → IsLeast p.grid mesh (wishes_in p phase mesh) levels
-      → IsLeast p.grid mesh (wishes_in p phase mesh) others → levels ≡ others
-  levels-one phase mesh levels others a b = IsLeast-one p.grid mesh (wishes_in p phase mesh) levels others a b
+  levels-one : (mesh : List Cube) (wishes : List Wish) (levels others : List ℕ) → IsLeast p.grid mesh wishes levels → IsLeast p.grid mesh wishes others
+      → levels ≡ others
+  levels-one mesh wishes levels others a b = IsLeast-one p.grid mesh wishes levels others a b
 
   Adapts-one : (phase : ℕ) (before after other : State) → Adapts p phase before after → Adapts p phase before other → after ≡ other
   Adapts-one phase before after other a b =
-      let levels : a.levels ≡ b.levels = levels-one phase before.leaves a.levels b.levels a.decides.least b.decides.least in
+      let levels : a.levels ≡ b.levels = levels-one before.leaves (phase_wishes p phase before) a.levels b.levels a.decides.least b.decides.least in
       a.next ∙ (ap (adapted before) levels ∙ sym b.next)
 
   RunSteps-one : (phase : ℕ) (s t u : RunState) → RunSteps p phase s t → RunSteps p phase s u → t ≡ u
@@ -44,9 +44,9 @@ module _ (p : Parameters) where
       RunSteps-one (suc phases) a.0 t u a.2 (subst (λ (s : RunState). RunSteps p (suc phases) s u) before b.2)
 
   -- the leaf that a limit names is one
-  same_leaf : (phase : ℕ) (mesh : List Cube) (i j : ℕ) (c d : Cube) → WishesTooFine p phase mesh i c → WishesTooFine p phase mesh j d
-      → ((k : ℕ) (e : Cube) → k < i → WishesTooFine p phase mesh k e → ⊥) → ((k : ℕ) (e : Cube) → k < j → WishesTooFine p phase mesh k e → ⊥) → c ≡ d
-  same_leaf phase mesh i j c d a b none_before_i none_before_j =
+  same_leaf : (mesh : List Cube) (wishes : List Wish) (i j : ℕ) (c d : Cube) → WishesTooFine p mesh wishes i c → WishesTooFine p mesh wishes j d
+      → ((k : ℕ) (e : Cube) → k < i → WishesTooFine p mesh wishes k e → ⊥) → ((k : ℕ) (e : Cube) → k < j → WishesTooFine p mesh wishes k e → ⊥) → c ≡ d
+  same_leaf mesh wishes i j c d a b none_before_i none_before_j =
       elim (cases_order i j) [
         | inr (inl less) ↦ absurd (none_before_j i c less a)
         | inl same ↦
@@ -55,18 +55,20 @@ module _ (p : Parameters) where
         | inr (inr more) ↦ absurd (none_before_i j d more b)
       ]
 
-  PassesLimit-one : (phase : ℕ) (mesh : List Cube) (f g : RunFault) → PassesLimit p phase mesh f → PassesLimit p phase mesh g → f ≡ g
-  PassesLimit-one phase mesh f g (of_level i c strict a none e) (of_level j d too b before h) =
-      e ∙ ap (LevelLimit phase) (same_leaf phase mesh i j c d a b none before) ∙ sym h
-  PassesLimit-one phase mesh f g (of_level i c strict a none e) (of_blocks levels keeps least many h) = absurd (keeps strict i c a)
-  PassesLimit-one phase mesh f g (of_blocks levels keeps least many e) (of_level i c strict a none h) = absurd (keeps strict i c a)
-  PassesLimit-one phase mesh f g (of_blocks levels keeps least many e) (of_blocks others kept leasts more h) =
-      e ∙ ap (λ (ls : List ℕ). BlockLimit phase (length (next_mesh mesh ls)) p.max_blocks) (levels-one phase mesh levels others least leasts) ∙ sym h
+  PassesLimit-one : (phase : ℕ) (mesh : List Cube) (wishes : List Wish) (f g : RunFault) → PassesLimit p phase mesh wishes f → PassesLimit p phase mesh wishes g
+      → f ≡ g
+  PassesLimit-one phase mesh wishes f g (of_level i c strict a none e) (of_level j d too b before h) =
+      e ∙ ap (LevelLimit phase) (same_leaf mesh wishes i j c d a b none before) ∙ sym h
+  PassesLimit-one phase mesh wishes f g (of_level i c strict a none e) (of_blocks levels keeps least many h) = absurd (keeps strict i c a)
+  PassesLimit-one phase mesh wishes f g (of_blocks levels keeps least many e) (of_level i c strict a none h) = absurd (keeps strict i c a)
+  PassesLimit-one phase mesh wishes f g (of_blocks levels keeps least many e) (of_blocks others kept leasts more h) =
+      e ∙ ap (λ (ls : List ℕ). BlockLimit phase (length (next_mesh mesh ls)) p.max_blocks) (levels-one mesh wishes levels others least leasts) ∙ sym h
 
-  passes_or_decides : (phase : ℕ) (mesh : List Cube) (others : List ℕ) (f : RunFault) → PassesLimit p phase mesh f → Decides p phase mesh others → ⊥
-  passes_or_decides phase mesh others f (of_level i c strict a none e) b = b.level_limit strict i c a
-  passes_or_decides phase mesh others f (of_blocks levels keeps least many e) b =
-      let same : levels ≡ others = levels-one phase mesh levels others least b.least in
+  passes_or_decides : (phase : ℕ) (mesh : List Cube) (wishes : List Wish) (others : List ℕ) (f : RunFault) → PassesLimit p phase mesh wishes f
+      → Decides p mesh wishes others → ⊥
+  passes_or_decides phase mesh wishes others f (of_level i c strict a none e) b = b.level_limit strict i c a
+  passes_or_decides phase mesh wishes others f (of_blocks levels keeps least many e) b =
+      let same : levels ≡ others = levels-one mesh wishes levels others least b.least in
       let counts : length (next_mesh mesh levels) ≡ length (next_mesh mesh others) = ap (λ (ls : List ℕ). length (next_mesh mesh ls)) same in
       omega (arith, b.block_limit)
 
@@ -93,12 +95,12 @@ module _ (p : Parameters) where
       ]
 
   -- a run that goes on past a phase passed no limit there
-  no_limit_within : (all phases : ℕ) (t s : RunState) (f : RunFault) → phases < all → Runs p all t → Runs p phases s → PassesLimit p (suc phases) s.state.leaves f → ⊥
+  pub no_limit_within : (all phases : ℕ) (t s : RunState) (f : RunFault) → phases < all → Runs p all t → Runs p phases s → PhasePasses p (suc phases) s.state f → ⊥
   no_limit_within all phases t s f below runs some passes =
       let h = through all phases t below runs in
       let same : s ≡ h.before = Runs-one phases s h.before some h.runs in
-      let moved : PassesLimit p (suc phases) h.before.state.leaves f = subst (λ (u : RunState). PassesLimit p (suc phases) u.state.leaves f) same passes in
-      passes_or_decides (suc phases) h.before.state.leaves h.steps.adapts.levels f moved h.steps.adapts.decides
+      let moved : PhasePasses p (suc phases) h.before.state f = subst (λ (u : RunState). PhasePasses p (suc phases) u.state f) same passes in
+      passes_or_decides (suc phases) h.before.state.leaves (phase_wishes p (suc phases) h.before.state) h.steps.adapts.levels f moved h.steps.adapts.decides
 
   one_end : (s t : RunState) (a b : Option RunFault) → RunEnds p s a → RunEnds p t b → SameEnd s t a b
   one_end s t a b (after_all runs none) (after_all course last) = record { state = Runs-one p.rounds s t runs course; limit = none ∙ sym last }
@@ -109,9 +111,9 @@ module _ (p : Parameters) where
         | inr (inl less) ↦ absurd (no_limit_within m k t s f less course runs passes)
         | inl same ↦
             let states : s ≡ t = Runs-one k s t runs (subst (λ n. Runs p n t) (sym same) course) in
-            let moved : PassesLimit p (suc k) s.state.leaves g =
-            subst (λ (u : RunState). PassesLimit p (suc k) u.state.leaves g) (sym states) (subst (λ n. PassesLimit p (suc n) t.state.leaves g) (sym same) stops) in
-            let faults : f ≡ g = PassesLimit-one (suc k) s.state.leaves f g passes moved in
+            let moved : PhasePasses p (suc k) s.state g =
+            subst (λ (u : RunState). PhasePasses p (suc k) u.state g) (sym states) (subst (λ n. PhasePasses p (suc n) t.state g) (sym same) stops) in
+            let faults : f ≡ g = PassesLimit-one (suc k) s.state.leaves (phase_wishes p (suc k) s.state) f g passes moved in
             record { state = states; limit = is ∙ ap Some faults ∙ sym ends }
         | inr (inr more) ↦ absurd (no_limit_within k m s t g more runs course stops)
       ]

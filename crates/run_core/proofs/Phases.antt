@@ -4,8 +4,7 @@ use Rattle.std.proofs.lemmas.List.{length-append}
 use Rattle.block_fields.specs.States.{State}
 use Rattle.block_index.specs.Places.{Cube}
 use Rattle.params_check.specs.Parameters.{Parameters}
-use Rattle.run_core.specs.Wishes.{wishes_in}
-use Rattle.run_core.specs.Runs.{Adapts, RunSteps, Runs, run_state}
+use Rattle.run_core.specs.Runs.{Adapts, RunSteps, Runs, phase_wishes, run_state}
 use Rattle.run_core.specs.PlainCounts.{IsPlainCount, CountsPhase, CountsPhases}
 
 pub Runs-more : (p : Parameters) (phases phase : ℕ) (before after : State) (leaves more : List ℕ) (n : ℕ) → phase ≡ phases + 1
@@ -24,15 +23,15 @@ length-more leaves more n k grown is = ap length grown ∙ length-append leaves 
 
 pub CountsPhases-more : (p : Parameters) (phases phase : ℕ) (state : State) (mesh : List Cube) (leaves : List ℕ) (handled count : ℕ) → phase ≡ phases + 1
     → state.leaves ≡ mesh → Runs p phases (run_state state leaves) → CountsPhases p phases handled
-    → IsPlainCount p.grid mesh (wishes_in p phase mesh) count → CountsPhases p phase (handled + count)
+    → IsPlainCount p.grid mesh (phase_wishes p phase state) count → CountsPhases p phase (handled + count)
 CountsPhases-more p phases phase state mesh leaves handled count number same runs counts plain =
     let next : phase ≡ suc phases = number ∙ add-one phases in
     let more : CountsPhase p phases handled (handled + count) = record {
       state = run_state state leaves;
       runs = runs;
       count = count;
-      plain = subst (λ k. IsPlainCount p.grid state.leaves (wishes_in p k state.leaves) count) next
-          (subst (λ (places : List Cube). IsPlainCount p.grid places (wishes_in p phase places) count) (sym same) plain);
+      plain = subst (λ k. IsPlainCount p.grid state.leaves (phase_wishes p k state) count) next
+          (subst (λ (places : List Cube). IsPlainCount p.grid places (phase_wishes p phase state) count) (sym same) plain);
       together = refl;
     } in
     subst (λ k. CountsPhases p k (handled + count)) (sym next) (handled, counts, more)

@@ -13,8 +13,8 @@ use Rattle.adapt_core.specs.React.{adapt_react, adapt_start}
 use Rattle.adapt_core.proofs.OneProblem.{same_problem, same_cells}
 use Rattle.adapt_core.proofs.FirstProblems.{problem_exists, begins_exists, plain_run_exists}
 use Rattle.params_check.specs.Parameters.{Parameters}
-use Rattle.run_core.specs.Wishes.{wish_of, wishes_in}
-use Rattle.run_core.specs.Runs.{RunState, Runs, RunEnds, after_all, at_limit}
+use Rattle.criteria.specs.Wishes.{wish_of}
+use Rattle.run_core.specs.Runs.{RunState, Runs, RunEnds, phase_wishes, after_all, at_limit}
 use Rattle.run_core.specs.PlainCounts.{IsPlainCount, CountsPhase, CountsPhases, HandlesPlainly}
 use Rattle.run_core.proofs.OneRun.{Runs-one}
 use Rattle.run_core.proofs.PhaseMeshes.{Runs-Tiles}
@@ -57,9 +57,9 @@ module _ (p : Parameters) where
       let y = b.2 in
       let before : a.0 ≡ b.0 = CountsPhases-one phases a.0 b.0 a.1 b.1 in
       let same : x.state ≡ y.state = Runs-one p phases x.state y.state x.runs y.runs in
-      let moved : IsPlainCount p.grid y.state.state.leaves (wishes_in p (suc phases) y.state.state.leaves) x.count =
-      subst (λ (s : RunState). IsPlainCount p.grid s.state.leaves (wishes_in p (suc phases) s.state.leaves) x.count) same x.plain in
-      let counts : x.count ≡ y.count = IsPlainCount-one p.grid y.state.state.leaves (wishes_in p (suc phases) y.state.state.leaves) x.count y.count moved y.plain in
+      let moved : IsPlainCount p.grid y.state.state.leaves (phase_wishes p (suc phases) y.state.state) x.count =
+      subst (λ (s : RunState). IsPlainCount p.grid s.state.leaves (phase_wishes p (suc phases) s.state) x.count) same x.plain in
+      let counts : x.count ≡ y.count = IsPlainCount-one p.grid y.state.state.leaves (phase_wishes p (suc phases) y.state.state) x.count y.count moved y.plain in
       x.together ∙ (ap (λ k. a.0 + k) counts ∙ ap (λ k. k + y.count) before) ∙ sym y.together
 
   CountsPhases-exists : (phases : ℕ) (s : RunState) → IsDomain p.grid → Runs p phases s → (n : ℕ) × CountsPhases p phases n
@@ -68,8 +68,8 @@ module _ (p : Parameters) where
       let state : RunState = runs.0 in
       let tiles = Runs-Tiles p phases state domain runs.1 in
       let mesh : List Cube = state.state.leaves in
-      let wishes : List Wish = wishes_in p (suc phases) mesh in
-      let plain = plain_count_exists p.grid mesh wishes domain tiles.mesh tiles.balanced (length-map mesh (wish_of p (suc phases))) in
+      let wishes : List Wish = phase_wishes p (suc phases) state.state in
+      let plain = plain_count_exists p.grid mesh wishes domain tiles.mesh tiles.balanced (length-map mesh (wish_of (suc phases) p.criteria state.state)) in
       let before = CountsPhases-exists phases state domain runs.1 in
       let more : CountsPhase p phases before.0 (before.0 + plain.0) = record {
         state = state;

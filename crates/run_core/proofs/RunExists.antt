@@ -17,69 +17,73 @@ use Rattle.block_fields.specs.States.{State}
 use Rattle.params_check.specs.Parameters.{Parameters}
 use Rattle.run_core.specs.declared.fault.RunFault.{RunFault}
 use Rattle.run_core.specs.declared.fault.RunFault.TheVariants.{LevelLimit, BlockLimit}
-use Rattle.run_core.specs.Wishes.{wish_of, wishes_in}
-use Rattle.run_core.specs.Runs.{KeepsLevelLimit, Decides, Adapts, PassesLimit, of_level, of_blocks, RunState, RunSteps, Runs, RunEnds, after_all, at_limit, run_start, run_state}
+use Rattle.run_core.specs.Runs.{KeepsLevelLimit, Decides, Adapts, PassesLimit, PhasePasses, phase_wishes, of_level, of_blocks, RunState, RunSteps, Runs, RunEnds, after_all, at_limit, run_start, run_state}
 
 true_cases : (b : Bool) → (b ≡ true) ⊎ (b ≡ true → ⊥)
 true_cases true = inl refl
 true_cases false = inr (λ e. cc)
 
-refine_cases : (w : Wish) → (w ≡ Refine) ⊎ (w ≡ Refine → ⊥)
-refine_cases Coarsen = inr (λ e. cc)
-refine_cases Stay = inr (λ e. cc)
-refine_cases Refine = inl refl
+refine_cases : (w : Option Wish) → (w ≡ Some Refine) ⊎ (w ≡ Some Refine → ⊥)
+refine_cases None = inr (λ e. cc)
+refine_cases (Some Coarsen) = inr (λ e. cc)
+refine_cases (Some Stay) = inr (λ e. cc)
+refine_cases (Some Refine) = inl refl
 
--- the first element of a list with a property that can be decided
-record FirstWith (Q : Cube → Type 0) (mesh : List Cube) : Type 0 where
+-- the first element of a list with a property of it and its position that can be decided
+record FirstWith (Q : ℕ → Cube → Type 0) (mesh : List Cube) : Type 0 where
   i : ℕ
   place : Cube
   is : slice_get mesh i ≡ Some place
-  has : Q place
-  none_before : (j : ℕ) (c : Cube) → j < i → slice_get mesh j ≡ Some c → Q c → ⊥
+  has : Q i place
+  none_before : (j : ℕ) (c : Cube) → j < i → slice_get mesh j ≡ Some c → Q j c → ⊥
 
-find : (Q : Cube → Type 0) → ((c : Cube) → Q c ⊎ (Q c → ⊥)) → (mesh : List Cube)
-    → FirstWith Q mesh ⊎ ((j : ℕ) (c : Cube) → slice_get mesh j ≡ Some c → Q c → ⊥)
-find Q cases [] = inr (λ j c at has. cc)
-find Q cases (a ∷ mesh) =
-    elim (cases a) [
+find : (mesh : List Cube) (Q : ℕ → Cube → Type 0) → ((i : ℕ) (c : Cube) → Q i c ⊎ (Q i c → ⊥))
+    → FirstWith Q mesh ⊎ ((j : ℕ) (c : Cube) → slice_get mesh j ≡ Some c → Q j c → ⊥)
+find [] Q cases = inr (λ j c at has. cc)
+find (a ∷ mesh) Q cases =
+    elim (cases 0 a) [
       | inl has ↦ inl (record { i = 0; place = a; is = refl; has = has; none_before = λ j c below at q. absurd (omega arith) })
       | inr hasnt ↦
-          elim (find Q cases mesh) [
+          elim (find mesh (λ i c. Q (suc i) c) (λ i c. cases (suc i) c)) [
             | inl h ↦
                 inl (record {
                   i = suc h.i;
                   place = h.place;
                   is = h.is;
                   has = h.has;
-                  none_before = λ j c below at q. before a mesh h hasnt j c below at q;
+                  none_before = λ j c below at q. before h hasnt j c below at q;
                 })
-            | inr none ↦ inr (λ j c at q. after a mesh hasnt none j c at q)
+            | inr none ↦ inr (λ j c at q. after hasnt none j c at q)
           ]
     ]
   where
-    before : (a : Cube) (mesh : List Cube) (h : FirstWith Q mesh) → (Q a → ⊥) → (j : ℕ) (c : Cube) → j < suc h.i → slice_get (a ∷ mesh) j ≡ Some c → Q c → ⊥
-    before a mesh h hasnt zero c below at q = hasnt (subst Q (sym (same_Some a c at)) q)
-    before a mesh h hasnt (suc j) c below at q = h.none_before j c (omega arith) at q
+    before : (h : FirstWith (λ i c. Q (suc i) c) mesh) → (Q 0 a → ⊥) → (j : ℕ) (c : Cube) → j < suc h.i → slice_get (a ∷ mesh) j ≡ Some c → Q j c → ⊥
+    before h hasnt zero c below at q = hasnt (subst (Q 0) (sym (same_Some a c at)) q)
+    before h hasnt (suc j) c below at q = h.none_before j c (omega arith) at q
 
-    after : (a : Cube) (mesh : List Cube) → (Q a → ⊥) → ((j : ℕ) (c : Cube) → slice_get mesh j ≡ Some c → Q c → ⊥)
-        → (j : ℕ) (c : Cube) → slice_get (a ∷ mesh) j ≡ Some c → Q c → ⊥
-    after a mesh hasnt none zero c at q = hasnt (subst Q (sym (same_Some a c at)) q)
-    after a mesh hasnt none (suc j) c at q = none j c at q
+    after : (Q 0 a → ⊥) → ((j : ℕ) (c : Cube) → slice_get mesh j ≡ Some c → Q (suc j) c → ⊥)
+        → (j : ℕ) (c : Cube) → slice_get (a ∷ mesh) j ≡ Some c → Q j c → ⊥
+    after hasnt none zero c at q = hasnt (subst (Q 0) (sym (same_Some a c at)) q)
+    after hasnt none (suc j) c at q = none j c at q
 
 module _ (p : Parameters) (g : IsDomain p.grid) where
-  too_fine_cases : (phase : ℕ) (c : Cube) → ((c.level ≡ p.grid.finest) × (wish_of p phase c ≡ Refine)) ⊎ ((c.level ≡ p.grid.finest) × (wish_of p phase c ≡ Refine) → ⊥)
-  too_fine_cases phase c =
+  abbrev TooFine : List Wish → ℕ → Cube → Type 0
+  TooFine wishes i c = (c.level ≡ p.grid.finest) × (slice_get wishes i ≡ Some Refine)
+
+  too_fine_cases : (wishes : List Wish) (i : ℕ) (c : Cube) → TooFine wishes i c ⊎ (TooFine wishes i c → ⊥)
+  too_fine_cases wishes i c =
       elim (cases_eq c.level p.grid.finest) [
         | inr n ↦ inr (λ h. n h.0)
-        | inl finest ↦ elim (refine_cases (wish_of p phase c)) [ inr n ↦ inr (λ h. n h.1) | inl refine ↦ inl (finest, refine) ]
+        | inl finest ↦ elim (refine_cases (slice_get wishes i)) [ inr n ↦ inr (λ h. n h.1) | inl refine ↦ inl (finest, refine) ]
       ]
 
-  level_limit_cases : (phase : ℕ) (mesh : List Cube) → KeepsLevelLimit p phase mesh ⊎ ((fault : RunFault) × PassesLimit p phase mesh fault)
-  level_limit_cases phase mesh =
+  level_limit_cases : (phase : ℕ) (mesh : List Cube) (wishes : List Wish)
+      → KeepsLevelLimit p mesh wishes ⊎ ((fault : RunFault) × PassesLimit p phase mesh wishes fault)
+  level_limit_cases phase mesh wishes =
       elim (true_cases p.strict) [
         | inr loose ↦ inl (λ strict i place a. loose strict)
         | inl strict ↦
-            elim (find (λ c. (c.level ≡ p.grid.finest) × (wish_of p phase c ≡ Refine)) (too_fine_cases phase) mesh) [
+            elim (find mesh (TooFine wishes) (too_fine_cases wishes)) [
               | inl h ↦
                   inr (
                     LevelLimit phase h.place,
@@ -90,20 +94,19 @@ module _ (p : Parameters) (g : IsDomain p.grid) where
             ]
       ]
 
-  record OneMore (phase : ℕ) (before : List Cube) : Type 0 where
+  record OneMore (before : List Cube) (wishes : List Wish) : Type 0 where
     levels : List ℕ
-    decides : Decides p phase before levels
+    decides : Decides p before wishes levels
     mesh : IsMesh p.grid (next_mesh before levels)
     balanced : IsBalanced p.grid (next_mesh before levels)
 
-  one_more : (phase : ℕ) (before : List Cube) → IsMesh p.grid before → IsBalanced p.grid before
-      → OneMore phase before ⊎ ((fault : RunFault) × PassesLimit p phase before fault)
-  one_more phase before m balanced =
-      elim (level_limit_cases phase before) [
+  one_more : (phase : ℕ) (before : List Cube) (wishes : List Wish) → IsMesh p.grid before → IsBalanced p.grid before
+      → OneMore before wishes ⊎ ((fault : RunFault) × PassesLimit p phase before wishes fault)
+  one_more phase before wishes m balanced =
+      elim (level_limit_cases phase before wishes) [
         | inr passes ↦ inr passes
         | inl keeps ↦
             let grid : Grid = p.grid in
-            let wishes : List Wish = wishes_in p phase before in
             let least = least_exists grid before wishes g m balanced in
             let levels : List ℕ = least.0 in
             let s = least.1.solves in
@@ -135,7 +138,7 @@ module _ (p : Parameters) (g : IsDomain p.grid) where
     fault : RunFault
     below : phases < bound
     runs : Runs p phases run
-    passes : PassesLimit p (suc phases) run.state.leaves fault
+    passes : PhasePasses p (suc phases) run.state fault
 
   course : (phases : ℕ) → Ran phases ⊎ Stopped phases
   course zero = inl (record { run = run_start p; runs = refl; mesh = root_mesh-IsMesh p.grid g; balanced = root_mesh-IsBalanced p.grid })
@@ -152,7 +155,7 @@ module _ (p : Parameters) (g : IsDomain p.grid) where
             })
         | inl before ↦
             let s : RunState = before.run in
-            elim (one_more (suc phases) s.state.leaves before.mesh before.balanced) [
+            elim (one_more (suc phases) s.state.leaves (phase_wishes p (suc phases) s.state) before.mesh before.balanced) [
               | inr h ↦ inr (record { phases = phases; run = s; fault = h.0; below = omega arith; runs = before.runs; passes = h.1 })
               | inl more ↦
                   let after : State = adapted s.state more.levels in

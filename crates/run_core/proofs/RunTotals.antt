@@ -13,8 +13,7 @@ use Rattle.block_fields.proofs.RootSums.{root_cells-sum}
 use Rattle.block_fields.proofs.Totals.{total-filled}
 use Rattle.initial_fill.specs.RootBlocks.{given_by, initial_state}
 use Rattle.params_check.specs.Parameters.{IsParameters, Parameters, total_of}
-use Rattle.run_core.specs.Runs.{RunState, Runs}
-use Rattle.run_core.specs.Wishes.{wishes_in}
+use Rattle.run_core.specs.Runs.{RunState, Runs, phase_wishes}
 use Rattle.run_core.proofs.PhaseMeshes.{Runs-Tiles}
 
 -- a state with the sizes of the parameters
@@ -48,7 +47,7 @@ module _ (p : Parameters) (w : IsParameters p) where
       let adapts = runs.2.adapts in
       let levels = adapts.levels in
       let tiles = Runs-Tiles p (suc phases) run w.domain runs in
-      let solves = subst (λ grid. IsSolution grid s.leaves (wishes_in p (suc phases) s.leaves) levels) (sym before.grid) adapts.decides.least.solves in
+      let solves = subst (λ grid. IsSolution grid s.leaves (phase_wishes p (suc phases) s) levels) (sym before.grid) adapts.decides.least.solves in
       let mesh : IsMesh s.grid (next_mesh s.leaves levels) =
       subst (λ grid. IsMesh grid (next_mesh s.leaves levels)) (sym before.grid) (subst (λ (t : State). IsMesh p.grid t.leaves) adapts.next tiles.mesh) in
       let balanced : IsBalanced s.grid (next_mesh s.leaves levels) =
@@ -58,7 +57,7 @@ module _ (p : Parameters) (w : IsParameters p) where
         grid = before.grid;
         fields = before.fields;
         totals = λ f h.
-            total-adapted s (wishes_in p (suc phases) s.leaves) levels f before.is solves (subst (λ k. f < k) (sym before.fields) h) ∙ before.totals f h;
+            total-adapted s (phase_wishes p (suc phases) s) levels f before.is solves (subst (λ k. f < k) (sym before.fields) h) ∙ before.totals f h;
       } in
       subst (IsStateOf p) (sym adapts.next) after
 

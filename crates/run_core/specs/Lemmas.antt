@@ -1,3 +1,4 @@
 -- Definitions that serve proofs alone.
 pub mod Bounds
 pub mod Decisions
+pub mod Keeping

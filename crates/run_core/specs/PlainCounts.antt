@@ -8,8 +8,7 @@ use Rattle.adapt_core.specs.Cells.{LeafState, AdaptProblem}
 use Rattle.adapt_core.specs.Problem.{mesh_of, wishes_of, AdaptBegins}
 use Rattle.adapt_core.specs.React.{adapt_react, adapt_start}
 use Rattle.params_check.specs.Parameters.{Parameters}
-use Rattle.run_core.specs.Runs.{RunState, Runs}
-use Rattle.run_core.specs.Wishes.{wishes_in}
+use Rattle.run_core.specs.Runs.{RunState, Runs, phase_wishes}
 
 -- How many messages the adapt phase of a mesh and these wishes handles where they are delivered first in, first out,
 -- its start messages in the order of the leaves.
@@ -28,7 +27,7 @@ pub record CountsPhase (p : Parameters) (phases before after : ℕ) : Type 0 whe
   pub state : RunState
   pub runs : Runs p phases state
   pub count : ℕ
-  pub plain : IsPlainCount p.grid state.state.leaves (wishes_in p (suc phases) state.state.leaves) count
+  pub plain : IsPlainCount p.grid state.state.leaves (phase_wishes p (suc phases) state.state) count
   pub together : after ≡ before + count
 
 -- the run's first phases, which are this many, handle so many messages together

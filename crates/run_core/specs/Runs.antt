@@ -2,6 +2,7 @@
 -- last or to a limit.
 use Rattle.std.specs.Prelude.{◌≡◌, ℕ, zero, suc, ◌<◌, ◌≤◌, true, List, [], ◌∷◌, ◌++◌, length, Option, Some, None, slice_get}
 use Rattle.block_index.specs.Places.{Cube}
+use Rattle.block_index.specs.declared.wish.Wish.{Wish}
 use Rattle.block_index.specs.declared.wish.Wish.TheVariants.{Refine}
 use Rattle.leaf_set.specs.LevelRules.{IsLeast}
 use Rattle.leaf_set.specs.NextMesh.{next_mesh}
@@ -11,45 +12,54 @@ use Rattle.block_fields.specs.Samples.{adapted}
 use Rattle.block_fields.specs.States.{State}
 use Rattle.initial_fill.specs.RootBlocks.{initial_state, root_depth}
 use Rattle.params_check.specs.Parameters.{Parameters}
+use Rattle.criteria.specs.Wishes.{wishes_in}
 use Rattle.run_core.specs.declared.fault.RunFault.{RunFault}
 use Rattle.run_core.specs.declared.fault.RunFault.TheVariants.{LevelLimit, BlockLimit}
-use Rattle.run_core.specs.Wishes.{wish_of, wishes_in}
 
 -- how many phases a run has at most
 abbrev pub most_phases : ℕ
 most_phases = 12
 
--- the leaf at `i` is of the finest level, and wishes to refine
-pub record WishesTooFine (p : Parameters) (phase : ℕ) (mesh : List Cube) (i : ℕ) (place : Cube) : Type 0 where
+-- the wish of each leaf of a state in a phase, by the criteria of the parameters
+abbrev pub phase_wishes : Parameters → ℕ → State → List Wish
+phase_wishes p phase s = wishes_in phase p.criteria s
+
+-- the leaf at `i` is of the finest level, and its wish is to refine
+pub record WishesTooFine (p : Parameters) (mesh : List Cube) (wishes : List Wish) (i : ℕ) (place : Cube) : Type 0 where
   pub leaf : slice_get mesh i ≡ Some place
   pub finest : place.level ≡ p.grid.finest
-  pub refine : wish_of p phase place ≡ Refine
+  pub refine : slice_get wishes i ≡ Some Refine
 
 -- where the parameters are strict, no leaf wishes for a level above the finest
-abbrev pub KeepsLevelLimit : Parameters → ℕ → List Cube → Type 0
-KeepsLevelLimit p phase mesh = p.strict ≡ true → (i : ℕ) (place : Cube) → WishesTooFine p phase mesh i place → ⊥
+abbrev pub KeepsLevelLimit : Parameters → List Cube → List Wish → Type 0
+KeepsLevelLimit p mesh wishes = p.strict ≡ true → (i : ℕ) (place : Cube) → WishesTooFine p mesh wishes i place → ⊥
 
--- One adapt phase decides on these levels of a mesh's leaves, the least that meet the level rules, within both limits.
-pub record Decides (p : Parameters) (phase : ℕ) (mesh : List Cube) (levels : List ℕ) : Type 0 where
-  pub level_limit : KeepsLevelLimit p phase mesh
-  pub least : IsLeast p.grid mesh (wishes_in p phase mesh) levels
+-- One adapt phase decides on these levels of a mesh's leaves, the least that meet the level rules for their wishes, within
+-- both limits.
+pub record Decides (p : Parameters) (mesh : List Cube) (wishes : List Wish) (levels : List ℕ) : Type 0 where
+  pub level_limit : KeepsLevelLimit p mesh wishes
+  pub least : IsLeast p.grid mesh wishes levels
   pub block_limit : length (next_mesh mesh levels) ≤ p.max_blocks
 
--- One adapt phase leads from a state to the next: the next mesh by these levels, whose cells hold the samples of the
--- state before.
+-- One adapt phase leads from a state to the next: the next mesh by the levels that the state's wishes decide on, whose
+-- cells hold the samples of the state before.
 pub record Adapts (p : Parameters) (phase : ℕ) (before after : State) : Type 0 where
   pub levels : List ℕ
-  pub decides : Decides p phase before.leaves levels
+  pub decides : Decides p before.leaves (phase_wishes p phase before) levels
   pub next : after ≡ adapted before levels
 
 -- An adapt phase ends the run by a limit: with strict parameters the first leaf that wishes for a level above the
 -- finest, else a next mesh of more leaves than there may be blocks.
-pub data PassesLimit (p : Parameters) (phase : ℕ) (mesh : List Cube) (fault : RunFault) : Type 0 where
-  of_level : (i : ℕ) (place : Cube) → p.strict ≡ true → WishesTooFine p phase mesh i place →
-      ((j : ℕ) (c : Cube) → j < i → WishesTooFine p phase mesh j c → ⊥) → fault ≡ LevelLimit phase place → PassesLimit p phase mesh fault
-  of_blocks : (levels : List ℕ) → KeepsLevelLimit p phase mesh → IsLeast p.grid mesh (wishes_in p phase mesh) levels →
+pub data PassesLimit (p : Parameters) (phase : ℕ) (mesh : List Cube) (wishes : List Wish) (fault : RunFault) : Type 0 where
+  of_level : (i : ℕ) (place : Cube) → p.strict ≡ true → WishesTooFine p mesh wishes i place →
+      ((j : ℕ) (c : Cube) → j < i → WishesTooFine p mesh wishes j c → ⊥) → fault ≡ LevelLimit phase place → PassesLimit p phase mesh wishes fault
+  of_blocks : (levels : List ℕ) → KeepsLevelLimit p mesh wishes → IsLeast p.grid mesh wishes levels →
       p.max_blocks < length (next_mesh mesh levels) → fault ≡ BlockLimit phase (length (next_mesh mesh levels)) p.max_blocks →
-      PassesLimit p phase mesh fault
+      PassesLimit p phase mesh wishes fault
+
+-- the phase that follows on a state passes a limit, by the state's wishes
+abbrev pub PhasePasses : Parameters → ℕ → State → RunFault → Type 0
+PhasePasses p phase s fault = PassesLimit p phase s.leaves (phase_wishes p phase s) fault
 
 -- the blocks are those of these leaves in order, with the edge and the fields of the parameters
 abbrev pub AreBlocksFor : Parameters → List Cube → List BlockState → Type 0
@@ -84,9 +94,9 @@ Runs p (suc phases) t = (s : RunState) × Runs p phases s × RunSteps p (suc pha
 -- The run ends, in this state: after its last phase, or by a limit that the next phase passes.
 pub data RunEnds (p : Parameters) (s : RunState) (limit : Option RunFault) : Type 0 where
   after_all : Runs p p.rounds s → limit ≡ None → RunEnds p s limit
-  at_limit : (phases : ℕ) (fault : RunFault) → phases < p.rounds → Runs p phases s → PassesLimit p (suc phases) s.state.leaves fault → limit ≡ Some fault →
+  at_limit : (phases : ℕ) (fault : RunFault) → phases < p.rounds → Runs p phases s → PhasePasses p (suc phases) s.state fault → limit ≡ Some fault →
       RunEnds p s limit
 
 -- no phase of the run passes a limit
 abbrev pub MeetsNoLimit : Parameters → Type 0
-MeetsNoLimit p = (phases : ℕ) (s : RunState) (fault : RunFault) → phases < p.rounds → Runs p phases s → PassesLimit p (suc phases) s.state.leaves fault → ⊥
+MeetsNoLimit p = (phases : ℕ) (s : RunState) (fault : RunFault) → phases < p.rounds → Runs p phases s → PhasePasses p (suc phases) s.state fault → ⊥

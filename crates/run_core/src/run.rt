@@ -1,171 +1,261 @@
-//! The run of parameters: its adapt phases, one after another, to the last or to a limit.
-ghost use Rattle.std.specs.Prelude.{◌≡◌, ℕ, ◌⊎◌, ◌^◌, ◌<◌, ◌≤◌, ◌↔◌, true, None, IfOk, IfErr, IfSome, IfNone, length};
-ghost use Rattle.block_index.specs.declared.wish.Wish.TheVariants.{Refine};
-ghost use Rattle.leaf_set.specs.LevelRules.{IsLeast};
+//! A run of parameters, work by work.
+ghost use Rattle.std.specs.Prelude.{◌≡◌, ℕ, ◌+◌, ◌⊎◌, ◌^◌, ◌<◌, ◌≤◌, IfOk, IfErr, length};
 ghost use Rattle.block_fields.specs.States.{total};
-ghost use Rattle.run_core.specs.Lemmas.Bounds.{many_messages};
-ghost use Rattle.run_core.specs.Wishes.{wishes_in};
-ghost use Rattle.run_core.specs.Runs.{AreBlocksFor, KeepsLevelLimit, PassesLimit, RunEnds, blocks_state, most_phases, run_state};
-ghost use Rattle.run_core.specs.Lemmas.Decisions.{LeadsTo};
-ghost use Rattle.run_core.specs.PlainCounts.{HandlesPlainly, IsPlainCount};
+ghost use Rattle.run_core.specs.Runs.{blocks_state, most_phases};
+ghost use Rattle.run_core.specs.Steps.{after_phase, step_after};
+ghost use Rattle.run_core.specs.Works.{AreNextWishes, HoldState, IsAdapt, IsNextProblem, IsNextRefresh, IsRefresh, IsWishes, IsWork, PassesNext, StandsAt, stage_out, works_left};
 
 use crate::fault::RunFault;
-use crate::wishes::wishes_in;
-use adapt_core::{Adapt, few_messages, levels};
+use crate::phase::{NextState, begin_adapt, next_state};
+use crate::refresh::{begin_refresh, refreshed};
+use crate::step::{Stage, Step, step_after};
+use crate::work::{Emission, Work};
+use adapt_core::{Adapt, AdaptCell};
 use block_fields::Block;
-use block_index::{Place, Wish};
+use block_index::Wish;
 use cello_num::Memory;
 use initial_fill::fill;
 use leaf_set::LeafSet;
 use params_check::Params;
-use phase_core::drive;
-use sibling_rule::{count_after, decide};
-use split_join::apply;
+use phase_core::Quiet;
+use refresh_phase::{Refresh, RefreshCell};
 use std::alloc::Global;
+use std::marker::Model;
+use std::mem;
 
-/// How a run ended: its mesh, a block for each of its leaves, the number of leaves after each phase, how many messages
-/// were handled, and the limit that ended it, if one did.
+/// A run of parameters. It gives out one work after another, and goes on with what comes back. Contracts see where it
+/// stands; its state is always that of the defined run after as many phases.
 #[derive(Drop)]
 pub struct Run {
-    pub set: LeafSet,
-    pub blocks: Vec<Block>,
-    pub leaves: Vec<u32>,
-    pub handled: u64,
-    pub limit: Option<RunFault>,
-}
-
-/// What an adapt phase came to: the next mesh, and how many messages were handled.
-#[derive(Drop)]
-struct PhaseEnd {
+    params: Params,
     set: LeafSet,
-    handled: u64,
+    blocks: Vec<Block>,
+    wishes: Vec<Wish>,
+    phase: u32,
+    step: Step,
+    stage: Stage,
 }
 
-/// Runs the adapt phases of parameters, from the root blocks on.
-pub fn run_phases(alloc: Global, params: &Params) -> Result<Run, Memory>
-    ensures ends { IfOk result (λ run. RunEnds params.now (run_state (blocks_state params.now run.blocks.items) run.leaves.items) run.limit) }
-    ensures blocks { IfOk result (λ run. AreBlocksFor params.now run.set.places run.blocks.items) }
-    ensures totals { IfOk result (λ run. (f : ℕ) → f < length params.now.fields → total (blocks_state params.now run.blocks.items) f ≤ 2 ^ 40) }
-    ensures handled { IfOk result (λ run. run.limit ≡ None → HandlesPlainly params.now run.handled) }
-    ensures phases { IfOk result (λ run. length run.leaves.items ≤ most_phases) }
-{
-    let mut set = LeafSet::roots(alloc, *params.domain())?;
-    let mut blocks = fill(alloc, params)?;
-    let mut leaves = Vec::new(alloc);
-    let mut handled = 0;
-    for round in 0..params.rounds() {
-        match adapt(alloc, params, round + 1, &set) {
-            Ok(
-                PhaseEnd {
-                    set: next,
-                    handled: count,
-                },
-            ) => {
-                blocks = apply(alloc, blocks, &set, &next)?;
-                set = next;
-                leaves.push(set.len() as u32)?;
-                handled += count;
+impl Model for Run {
+    ghost use Rattle.run_core.specs.Works.{Standing};
+    ghost use Rattle.run_core.specs.Lemmas.Keeping.{KeepsRun};
+
+    ghost Value = { Standing };
+
+    ghost view = { λ r. record { parameters = r.params; set = r.set; phase = r.phase; step = r.step; stage = r.stage } };
+
+    ghost invariant = { λ r. KeepsRun r.params r.set r.phase r.step r.stage r.blocks.items r.wishes.items };
+}
+
+impl Run {
+    /// The run before its first phase, with the root blocks.
+    pub fn begin(alloc: Global, params: Params) -> Result<Run, Memory>
+        ensures parameters { IfOk result (λ run. run.parameters ≡ params) }
+        ensures phase { IfOk result (λ run. run.phase ≡ 0) }
+        ensures stands { IfOk result (λ run. StandsAt params 0 run.set.places) }
+        ensures step { IfOk result (λ run. run.step ≡ after_phase params 0) }
+        ensures next { IfOk result (λ run. run.stage ≡ Stage.Next) }
+    {
+        let set = LeafSet::roots(alloc, *params.domain())?;
+        let blocks = fill(alloc, &params)?;
+        let step = step_after(&params, 0, Step::Adapt);
+        Ok(Run {
+            params,
+            set,
+            blocks,
+            wishes: Vec::new(alloc),
+            phase: 0,
+            step,
+            stage: Stage::Next,
+        })
+    }
+
+    /// The next work. The run waits until it comes back; at the end there is none to be done.
+    pub fn work(&mut self, alloc: Global) -> Result<Work, RunFault>
+        requires next { self.old.stage ≡ Stage.Next }
+        ensures work { IfOk result (λ work. IsWork self.new work) }
+        ensures out { IfOk result (λ _. self.new ≡ record self.old { stage = stage_out self.old.step }) }
+        ensures limit { IfErr result (λ fault. (fault ≡ RunFault.Memory) ⊎ PassesNext self.old fault) }
+        ensures failed { IfErr result (λ _. self.new ≡ record self.old { stage = Stage.Failed }) }
+    {
+        match self.step {
+            Step::Refresh => {
+                let (phase, cells) = self.give_refresh(alloc)?;
+                Ok(Work::Refresh(phase, cells))
+            }
+            Step::Wishes => Ok(Work::Wishes(self.give_blocks(alloc))),
+            Step::Adapt => {
+                let (phase, cells) = self.give_adapt(alloc)?;
+                Ok(Work::Adapt(phase, cells))
+            }
+            Step::Emit => {
+                self.stage = Stage::Out;
+                Ok(Work::Emit(Emission { cycle: 0 }))
+            }
+            Step::Ended => Ok(Work::Ended),
+        }
+    }
+
+    /// Gives the blocks out as the cells of a refresh phase.
+    fn give_refresh(&mut self, alloc: Global) -> Result<(Refresh, Vec<RefreshCell>), Memory>
+        requires next { self.old.stage ≡ Stage.Next }
+        requires step { self.old.step ≡ Step.Refresh }
+        ensures begun { IfOk result (λ r. IsRefresh self.new r.0 r.1.items) }
+        ensures out { IfOk result (λ _. self.new ≡ record self.old { stage = Stage.Out }) }
+        ensures failed { IfErr result (λ _. self.new ≡ record self.old { stage = Stage.Failed }) }
+    {
+        self.stage = Stage::Failed;
+        let blocks = mem::replace(&mut self.blocks, Vec::new(alloc));
+        let begun = begin_refresh(alloc, &self.params, self.phase, &self.set, blocks)?;
+        self.stage = Stage::Out;
+        Ok(begun)
+    }
+
+    /// Takes the refresh phase at rest, whose blocks hold samples around them.
+    pub fn done_refresh(&mut self, alloc: Global, quiet: Quiet<Refresh>) -> Result<(), Memory>
+        requires out { self.old.stage ≡ Stage.Out }
+        requires step { self.old.step ≡ Step.Refresh }
+        requires problem { IsNextRefresh self.old quiet.problem }
+        ensures next { IfOk result (λ _. self.new ≡ record self.old {
+          step = step_after self.old.parameters self.old.phase Step.Refresh;
+          stage = Stage.Next;
+        }) }
+        ensures fewer { IfOk result (λ _. works_left self.new < works_left self.old) }
+        ensures failed { IfErr result (λ _. self.new ≡ record self.old { stage = Stage.Failed }) }
+    {
+        self.stage = Stage::Failed;
+        self.blocks = refreshed(alloc, &self.params, self.phase, &self.set, quiet)?;
+        self.step = step_after(&self.params, self.phase, Step::Refresh);
+        self.stage = Stage::Next;
+        Ok(())
+    }
+
+    /// Gives the blocks out.
+    fn give_blocks(&mut self, alloc: Global) -> Vec<Block>
+        requires next { self.old.stage ≡ Stage.Next }
+        requires step { self.old.step ≡ Step.Wishes }
+        ensures blocks { IsWishes self.new result.items }
+        ensures out { self.new ≡ record self.old { stage = Stage.Out } }
+    {
+        self.stage = Stage::Out;
+        mem::replace(&mut self.blocks, Vec::new(alloc))
+    }
+
+    /// Gives the next phase out, unless a leaf wishes past the level limit.
+    fn give_adapt(&mut self, alloc: Global) -> Result<(Adapt, Vec<AdaptCell>), RunFault>
+        requires next { self.old.stage ≡ Stage.Next }
+        requires step { self.old.step ≡ Step.Adapt }
+        ensures begun { IfOk result (λ r. IsAdapt self.new r.0 r.1.items) }
+        ensures out { IfOk result (λ _. self.new ≡ record self.old { stage = Stage.Out }) }
+        ensures limit { IfErr result (λ fault. (fault ≡ RunFault.Memory) ⊎ PassesNext self.old fault) }
+        ensures failed { IfErr result (λ _. self.new ≡ record self.old { stage = Stage.Failed }) }
+    {
+        match begin_adapt(alloc, &self.params, self.phase + 1, &self.set, &self.wishes) {
+            Ok(begun) => {
+                self.stage = Stage::Out;
+                Ok(begun)
             }
             Err(fault) => {
-                let limit = limit_of(fault)?;
-                return Ok(Run {
-                    set,
-                    blocks,
-                    leaves,
-                    handled,
-                    limit: Some(limit),
-                });
+                self.stage = Stage::Failed;
+                Err(fault)
             }
         }
     }
-    Ok(Run {
-        set,
-        blocks,
-        leaves,
-        handled,
-        limit: None,
-    })
-}
 
-/// The limit that a fault names, unless memory was refused.
-fn limit_of(fault: RunFault) -> Result<RunFault, Memory>
-    ensures limit { IfOk result (λ limit. limit ≡ fault) }
-    ensures other { IfOk result (λ _. fault ≡ RunFault.Memory → ⊥) }
-{
-    match fault {
-        RunFault::Memory => Err(Memory),
-        RunFault::LevelLimit { .. } | RunFault::BlockLimit { .. } => Ok(fault),
+    /// Takes the blocks back, with the wish of each leaf.
+    pub fn done_wishes(&mut self, blocks: Vec<Block>, wishes: Vec<Wish>)
+        requires out { self.old.stage ≡ Stage.Out }
+        requires step { self.old.step ≡ Step.Wishes }
+        requires blocks { HoldState self.old.parameters self.old.phase self.old.set.places blocks.items }
+        requires wishes { AreNextWishes self.old wishes.items }
+        ensures next { self.new ≡ record self.old { step = step_after self.old.parameters self.old.phase Step.Wishes; stage = Stage.Next } }
+        ensures fewer { works_left self.new < works_left self.old }
+    {
+        self.blocks = blocks;
+        self.wishes = wishes;
+        self.step = step_after(&self.params, self.phase, Step::Wishes);
+        self.stage = Stage::Next;
     }
-}
 
-/// Whether a leaf is of the finest level and wishes to refine.
-fn is_too_fine(leaf: Place, wish: Wish, finest: u8) -> bool
-    ensures too_fine { (result ≡ true) ↔ ((leaf.level ≡ finest) × (wish ≡ Refine)) }
-{
-    match wish {
-        Wish::Coarsen | Wish::Stay => false,
-        Wish::Refine => leaf.level() == finest,
-    }
-}
-
-/// The first leaf of the finest level that wishes to refine, where the parameters are strict.
-fn level_limit(params: &Params, phase: u32, set: &LeafSet, wishes: &[Wish]) -> Option<RunFault>
-    requires wishes { wishes.now ≡ wishes_in params.now phase set.now.places }
-    requires one_each { length wishes.now ≡ length set.now.places }
-    ensures found { IfSome result (λ fault. PassesLimit params.now phase set.now.places fault) }
-    ensures none { IfNone result (KeepsLevelLimit params.now phase set.now.places) }
-{
-    if !params.strict() {
-        return None;
-    }
-    let finest = params.domain().max_level();
-    for i in 0..set.len() {
-        let place = set.place(i);
-        if is_too_fine(place, wishes[i], finest) {
-            return Some(RunFault::LevelLimit { phase, place });
+    /// Takes the phase at rest, and goes over to the mesh that it decides on, unless that has too many leaves.
+    pub fn done_adapt(&mut self, alloc: Global, quiet: Quiet<Adapt>) -> Result<(), RunFault>
+        requires out { self.old.stage ≡ Stage.Out }
+        requires step { self.old.step ≡ Step.Adapt }
+        requires problem { IsNextProblem self.old quiet.problem }
+        ensures next { IfOk result (λ _. self.new ≡ record self.old {
+          set = self.new.set;
+          phase = self.old.phase + 1;
+          step = step_after self.old.parameters (self.old.phase + 1) Step.Adapt;
+          stage = Stage.Next;
+        }) }
+        ensures fewer { IfOk result (λ _. works_left self.new < works_left self.old) }
+        ensures limit { IfErr result (λ fault. (fault ≡ RunFault.Memory) ⊎ PassesNext self.old fault) }
+        ensures failed { IfErr result (λ _. self.new ≡ record self.old { stage = Stage.Failed }) }
+    {
+        self.stage = Stage::Failed;
+        let blocks = mem::replace(&mut self.blocks, Vec::new(alloc));
+        match next_state(alloc, &self.params, self.phase, &self.set, blocks, &quiet) {
+            Ok(NextState { set, blocks }) => {
+                self.set = set;
+                self.blocks = blocks;
+                self.phase += 1;
+                self.step = step_after(&self.params, self.phase, Step::Adapt);
+                self.stage = Stage::Next;
+                Ok(())
+            }
+            Err(fault) => Err(fault),
         }
     }
-    None
-}
 
-/// The least levels for these wishes, by the messages of an adapt phase, and how many messages were handled.
-fn least_levels(alloc: Global, set: &LeafSet, wishes: &[Wish]) -> Result<(Vec<u8>, u64), Memory>
-    requires one_each { length wishes.now ≡ length set.now.places }
-    ensures least { IfOk result (λ r. IsLeast set.now.grid set.now.places wishes.now r.0.items) }
-    ensures plain { IfOk result (λ r. IsPlainCount set.now.grid set.now.places wishes.now r.1) }
-    ensures few { IfOk result (λ r. r.1 ≤ many_messages) }
-{
-    let (problem, cells) = Adapt::begin(alloc, set, wishes)?;
-    let quiet = drive(alloc, problem, cells)?;
-    let levels = levels(alloc, &quiet)?;
-    few_messages();
-    Ok((levels, quiet.handled()))
-}
+    /// The state of the cycle was told.
+    pub fn done_emit(&mut self)
+        requires out { self.old.stage ≡ Stage.Out }
+        requires step { self.old.step ≡ Step.Emit }
+        ensures next { self.new ≡ record self.old { step = step_after self.old.parameters self.old.phase Step.Emit; stage = Stage.Next } }
+        ensures fewer { works_left self.new < works_left self.old }
+    {
+        self.step = step_after(&self.params, self.phase, Step::Emit);
+        self.stage = Stage::Next;
+    }
 
-/// The decisions of one adapt phase: they lead to the next mesh, or pass a limit.
-fn adapt(alloc: Global, params: &Params, phase: u32, set: &LeafSet) -> Result<PhaseEnd, RunFault>
-    requires grid { set.now.grid ≡ params.now.grid }
-    ensures decides { IfOk result (λ end. LeadsTo params.now phase set.now.places end.set.places) }
-    ensures grid { IfOk result (λ end. end.set.grid ≡ params.now.grid) }
-    ensures plain { IfOk result (λ end. IsPlainCount params.now.grid set.now.places
-        (wishes_in params.now phase set.now.places) end.handled) }
-    ensures few { IfOk result (λ end. end.handled ≤ many_messages) }
-    ensures ended { IfErr result (λ fault. (fault ≡ RunFault.Memory) ⊎ PassesLimit params.now phase set.now.places fault) }
-{
-    let wishes = wishes_in(alloc, params, phase, set)?;
-    if let Some(limit) = level_limit(params, phase, set, &wishes) {
-        return Err(limit);
+    /// The parameters.
+    pub fn params(&self) -> &Params
+        ensures params { result.now ≡ self.now.parameters }
+    {
+        &self.params
     }
-    let (levels, handled) = least_levels(alloc, set, &wishes)?;
-    let count = count_after(set, &levels);
-    let limit = params.max_blocks();
-    if count > limit {
-        return Err(RunFault::BlockLimit {
-            phase,
-            count,
-            limit,
-        });
+
+    /// The leaves after the last phase that ended.
+    pub fn set(&self) -> &LeafSet
+        ensures set { result.now ≡ self.now.set }
+        ensures grid { self.now.set.grid ≡ self.now.parameters.grid }
+        ensures stands { StandsAt self.now.parameters self.now.phase self.now.set.places }
+    {
+        &self.set
     }
-    let next = decide(alloc, set, &levels)?;
-    Ok(PhaseEnd { set: next, handled })
+
+    /// How many adapt phases have ended.
+    pub fn phase(&self) -> u32
+        ensures phase { result ≡ self.now.phase }
+        ensures few { self.now.phase ≤ most_phases }
+    {
+        self.phase
+    }
+
+    /// The last cycle that ended: 0 before the first.
+    pub fn cycle(&self) -> u32
+        ensures cycle { result ≡ 0 }
+    {
+        0
+    }
+
+    /// The blocks of the state, while an emission is out.
+    pub fn blocks(&self) -> &[Block]
+        requires out { self.now.stage ≡ Stage.Out }
+        requires step { self.now.step ≡ Step.Emit }
+        ensures holds { HoldState self.now.parameters self.now.phase self.now.set.places result.now }
+        ensures few { (f : ℕ) → f < length self.now.parameters.fields → total (blocks_state self.now.parameters result.now) f ≤ 2 ^ 40 }
+    {
+        self.blocks.as_slice()
+    }
 }

@@ -1,5 +1,5 @@
 -- What the steps of a command leave behind: reading the parameters, and carrying the command out.
-use Rattle.std.specs.Prelude.{◌≡◌, ℕ, Bool, List, Option, Some, None}
+use Rattle.std.specs.Prelude.{◌≡◌, ℕ, ◌⊎◌, Bool, List, Option, Some, None}
 use Rattle.std.specs.Io.KnownBytes.{append_known}
 use Rattle.cello_io.specs.Writes.{GrewByPart}
 use Rattle.params_check.specs.Parameters.{Parameters}
@@ -68,12 +68,16 @@ pub record AnswersReadInPart (words : List (List ℕ)) (saw : Seen) : Type 0 whe
   pub is : IsAnswer words bytes answer
   pub part : GrewByPart saw.written_before saw.written_after (bytes_of answer.actions)
 
+-- the command wrote nothing
+abbrev pub WroteNothing : Seen → Type 0
+WroteNothing saw = saw.written_after ≡ saw.written_before
+
 -- why a command of these words ends otherwise than well
 pub data CommandEnds (words : List (List ℕ)) (fault : Fault) (saw : Seen) : Type 0 where
   command_answered : IsAnswered (Some fault) → SawText (Some fault) → AnswersRead words (Some fault) saw → CommandEnds words fault saw
   command_source : fault ≡ ReadFault → CommandEnds words fault saw
   command_sink : fault ≡ WriteFault → AnswersReadInPart words saw → CommandEnds words fault saw
-  command_memory : fault ≡ Memory → CommandEnds words fault saw
+  command_memory : fault ≡ Memory → WroteNothing saw ⊎ AnswersReadInPart words saw → CommandEnds words fault saw
 
 -- how many messages a command handled that ended well
 abbrev pub CommandHandles : Command → Option (List ℕ) → Option (List ℕ) → Bool → ℕ → Type 0
@@ -100,4 +104,4 @@ pub data RunningEnds (p : Parameters) (before after : Option (List ℕ)) (fault 
   running_unbuilt : unbuilt p ≡ Some fault → after ≡ before → RunningEnds p before after fault
   running_limit : (limit : RunFault) → fault ≡ fault_of limit → RanWritten p (Some limit) before after → RunningEnds p before after fault
   running_sink : fault ≡ WriteFault → RanInPart p before after → RunningEnds p before after fault
-  running_memory : fault ≡ Memory → RunningEnds p before after fault
+  running_memory : fault ≡ Memory → RanInPart p before after → RunningEnds p before after fault

@@ -22,17 +22,17 @@ returns-in-Check-clause-ended g c = λ words is.
     (λ fault e part. text-ends words _ _ _ _ _ c.in_ok-params.params c.in_ok-params.ensures.found (subst (λ command. IsOf command words) c.in-Check.is is) fault e part)
     c.write_text.ensures.ended c.write_text.ensures.part
 
-pub returns-clause-done : goal.returns-clause-done
-returns-clause-done g c = λ words is.
+pub returns-in-Solo-clause-done : goal.returns-in-Solo-clause-done
+returns-in-Solo-clause-done g c = λ words is.
     IfOk-weaker c.run_parameters.result _ _
     (λ handled h. run-written words _ _ _ _ _ c.in_ok-params.params c.in_ok-params.ensures.found (subst (λ command. IsOf command words) c.in-Solo.is is) h)
     c.run_parameters.ensures.written
 
-pub returns-clause-ended : goal.returns-clause-ended
-returns-clause-ended g c = λ words is.
+pub returns-in-Solo-clause-ended : goal.returns-in-Solo-clause-ended
+returns-in-Solo-clause-ended g c = λ words is.
     IfErr-weaker c.run_parameters.result _ _
     (λ fault h. run-ends words _ _ _ _ _ c.in_ok-params.params c.in_ok-params.ensures.found (subst (λ command. IsOf command words) c.in-Solo.is is) fault h)
     c.run_parameters.ensures.ended
 
-pub returns-clause-read_cause : goal.returns-clause-read_cause
-returns-clause-read_cause g c = λ e. absurd (run-not-read _ _ _ c.run_parameters.result c.run_parameters.ensures.ended e)
+pub returns-in-Solo-clause-read_cause : goal.returns-in-Solo-clause-read_cause
+returns-in-Solo-clause-read_cause g c = λ e. absurd (run-not-read _ _ _ c.run_parameters.result c.run_parameters.ensures.ended e)
