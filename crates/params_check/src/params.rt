@@ -1,5 +1,5 @@
 //! The parameters of a run.
-ghost use Rattle.std.specs.Prelude.{◌≡◌, ◌≤◌, All, List, codes, length, map, nat_abs};
+ghost use Rattle.std.specs.Prelude.{◌≡◌, ◌<◌, ◌≤◌, All, List, codes, length, map, nat_abs};
 ghost use Rattle.params_check.specs.Bounds.{fastest};
 ghost use Rattle.block_index.specs.Places.{IsDomain};
 ghost use Rattle.params_syntax.specs.declared.tree.Group.{Group};
@@ -8,7 +8,7 @@ ghost use Rattle.params_syntax.specs.Canonical.{canonical_text};
 ghost use Rattle.params_check.specs.Keys.{mesh_array, mesh_boundary, mesh_keys, method_velocity, method_keys, output_keys};
 ghost use Rattle.params_check.specs.Lemmas.Slots.{AreSlots, given};
 ghost use Rattle.params_check.specs.Limits.{IsCorner};
-ghost use Rattle.params_check.specs.Parameters.{IsParameters, values_of};
+ghost use Rattle.params_check.specs.Parameters.{IsParameters, total_of, values_of};
 ghost use Rattle.params_check.specs.TreeValues.{criterion_of, fields_of, grid_by, grid_of_mesh, numbers_at, settings_of, shape_of, sizes_at, subs_of, words_at};
 ghost use Rattle.params_check.specs.Values.{size_in, sizes_in};
 
@@ -17,6 +17,7 @@ use crate::criterion::Criteria;
 use crate::field_names::Names;
 use crate::shape::Shapes;
 use crate::slots::Slot;
+use crate::totals::initial_total;
 use block_index::Domain;
 use std::marker::Model;
 
@@ -292,6 +293,21 @@ impl Params {
         ensures depth { result ≡ 1 }
     {
         1
+    }
+
+    /// The initial total of a field: what its shapes put into the root cells of the domain, in amounts.
+    pub fn initial_total(&self, field: u8) -> u64
+        requires field { field < length self.now.fields }
+        ensures total { result ≡ total_of self.now field }
+        ensures limits { IsParameters self.now }
+    {
+        let values = &self.values;
+        initial_total(
+            &values.domain,
+            values.block as u16,
+            values.shapes.items(),
+            field,
+        ) as u64
     }
 
     /// The canonical text.
