@@ -30,3 +30,4 @@ pub mod SampleSteps
 pub mod Directions
 pub mod OwedSteps
 pub mod OwedPieces
+pub mod SizedPieces

@@ -115,15 +115,18 @@ stay-none (pos zero) e = refl
 stay-none (pos (suc k)) e = absurd (false≢true e)
 stay-none (negsuc k) e = absurd (false≢true e)
 
+pub unit_direction : (dir : Offset) → IsUnitStep dir.x → IsUnitStep dir.y → IsUnitStep dir.z → is_some_step dir ≡ true → IsDirection dir
+unit_direction dir x y z e = record {
+  x = x;
+  y = y;
+  z = z;
+  some = λ f g h. stay_test (is_stay dir.x) (is_stay dir.y) (is_stay dir.z) e (ap is_stay f) (ap is_stay g) (ap is_stay h);
+}
+
 pub is_direction : (dir : Offset) → Member directions dir → is_some_step dir ≡ true → IsDirection dir
 is_direction dir m e =
     let q = in_directions dir m in
-    record {
-      x = steps_members dir.x q.2;
-      y = steps_members dir.y q.1;
-      z = steps_members dir.z q.0;
-      some = λ f g h. stay_test (is_stay dir.x) (is_stay dir.y) (is_stay dir.z) e (ap is_stay f) (ap is_stay g) (ap is_stay h);
-    }
+    unit_direction dir (steps_members dir.x q.2) (steps_members dir.y q.1) (steps_members dir.z q.0) e
 
 pub direction_some : (dir : Offset) → IsDirection dir → is_some_step dir ≡ true
 direction_some dir h =

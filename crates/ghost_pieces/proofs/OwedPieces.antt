@@ -11,8 +11,7 @@ use Rattle.leaf_set.specs.TouchingLeaves.{AreTouching}
 use Rattle.ghost_pieces.specs.Boxes.{Box, box_size, has_cells, reached_box, region_box}
 use Rattle.ghost_pieces.specs.Regions.{AreOwed, Member}
 use Rattle.ghost_pieces.specs.Pieces.{PieceState, AreOwedPieces, IsBetweenLeaves, empty_piece, zero_amounts}
-use Rattle.ghost_pieces.specs.Lemmas.OwedLists.{directions, is_some_step, owed, owed_pieces, pieces_between, pieces_toward, regions_between, steps_at}
-use Rattle.ghost_pieces.proofs.Directions.{more}
+use Rattle.ghost_pieces.specs.Lemmas.OwedLists.{directions, is_some_step, owed, owed_pieces, pieces_between, pieces_toward, regions_between}
 use Rattle.ghost_pieces.proofs.Lists.{filter_left, member-cons, member-unflat_map, member-unmap}
 use Rattle.ghost_pieces.proofs.Owed.{at_index, contains_member}
 use Rattle.ghost_pieces.proofs.OwedSteps.{owed_even}
@@ -61,23 +60,6 @@ module _ (grid : Grid) (n d fields j : ℕ) (b : Cube) (i : ℕ) (s : Cube) (dir
       let full : size ≡ box_size (region_box n d b dir s) = same ∙ ap box_size (reached-region grid n d b dir s cells) in
       ap (λ k. (record { region = record { receiver = j; sender = i; direction = dir }; receiver = b; sender = s; amounts = replicate fields (replicate k 0) }) ∷ []) full
       ∙ sym (cond-true (is_some_step dir && has_cells box) (one ∷ []) [] (and_from (is_some_step dir) (has_cells box) e cells))
-
--- ---- in all directions
-
-module _ (grid : Grid) (n d fields j : ℕ) (b : Cube) (i : ℕ) (s : Cube) where
-  abbrev test : Offset → Bool
-  test dir = is_some_step dir && has_cells (reached_box grid n d b dir s)
-
-  map_one : {A B : Type 0} (f : A → B) (t : Bool) (x : A) → map f (cond t (x ∷ []) []) ≡ cond t (f x ∷ []) []
-  map_one f true x = refl
-  map_one f false x = refl
-
-  pub toward-next : (k : ℕ) (old : List PieceState) → k < length directions → get_or directions k (steps_at k) ≡ steps_at k → (old ++ map (λ dir. empty_piece n d fields j b i s dir) (filter (λ dir. is_some_step dir && has_cells (reached_box grid n d b dir s)) (take k directions))) ++ pieces_toward grid n d fields j b i s (steps_at k) ≡ old ++ map (λ dir. empty_piece n d fields j b i s dir) (filter (λ dir. is_some_step dir && has_cells (reached_box grid n d b dir s)) (take (k + 1) directions))
-  toward-next k old h e =
-      let f = λ (dir : Offset). empty_piece n d fields j b i s dir in
-      let t = λ (dir : Offset). is_some_step dir && has_cells (reached_box grid n d b dir s) in
-      ap (λ u. (old ++ map f (filter t (take k directions))) ++ u) (sym (map_one f (t (steps_at k)) (steps_at k)) ∙ ap (λ x. map f (cond (t x) (x ∷ []) [])) (sym e))
-      ∙ sym (more f t directions k (steps_at k) old h)
 
 -- ---- to all receivers
 

@@ -25,7 +25,7 @@ pub(crate) struct Side {
 }
 
 /// Where the first coordinate before a block is moved.
-fn reached_before(n: usize, depth: usize, side: Side) -> usize
+pub(crate) fn reached_before(n: usize, depth: usize, side: Side) -> usize
     requires edge { n ≤ 16 }
     requires deep { 2 * depth ≤ n }
     requires some { 0 < depth }
@@ -43,7 +43,7 @@ fn reached_before(n: usize, depth: usize, side: Side) -> usize
 }
 
 /// Where the first coordinate after a block is moved.
-fn reached_after(n: usize, depth: usize, side: Side) -> usize
+pub(crate) fn reached_after(n: usize, depth: usize, side: Side) -> usize
     requires edge { n ≤ 16 }
     requires deep { 2 * depth ≤ n }
     requires some { 0 < depth }
@@ -127,8 +127,24 @@ fn own_part(n: usize, depth: usize, side: Side, span: usize, from: usize) -> Par
     let skip = low.saturating_sub(own);
     Part {
         first: depth + skip,
-        count: n.min((low + span).saturating_sub(own)).saturating_sub(skip),
+        count: own_count(n, side, span, from),
         start: own.saturating_sub(low),
         runs: true,
     }
+}
+
+/// How many coordinates it has.
+pub(crate) fn own_count(n: usize, side: Side, span: usize, from: usize) -> usize
+    requires edge { n ≤ 16 }
+    requires places { side.places ≤ 1024 }
+    requires at { side.at < side.places }
+    requires most { span ≤ 32 }
+    requires from { from < 2048 }
+    ensures count { (depth : ℕ) → result ≡ (reached_part n depth side.places side.wraps side.at span from (pos 0)).count }
+    ensures few { result ≤ n }
+{
+    let own = side.at * n;
+    let low = from * span;
+    let skip = low.saturating_sub(own);
+    n.min((low + span).saturating_sub(own)).saturating_sub(skip)
 }

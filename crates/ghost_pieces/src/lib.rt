@@ -7,6 +7,7 @@
 #![tactic(auto)]
 
 mod axis_parts;
+mod counts;
 mod filed_set;
 mod filing;
 mod filled_boxes;

@@ -1,11 +1,11 @@
 //! The pieces that a leaf owes.
 ghost use Rattle.std.specs.Prelude.{◌≡◌, ℕ, ◌+◌, ◌*◌, ◌%◌, ◌<◌, ◌≤◌, ◌++◌, true, false, Some, IfSome, IfOk, IsNone, length, slice_get};
 ghost use Rattle.block_index.specs.Places.{IsInside};
-ghost use Rattle.ghost_pieces.specs.Boxes.{box_size, reached_box};
 ghost use Rattle.ghost_pieces.specs.Pieces.{AreOwedPieces, most_owed};
-ghost use Rattle.ghost_pieces.specs.Lemmas.OwedLists.{is_some_step, pieces_between, pieces_toward, step_at, steps_at};
+ghost use Rattle.ghost_pieces.specs.Lemmas.Counts.{AreFew, count_at, piece_of_size, plane_pieces, reached_pieces, row_pieces};
+ghost use Rattle.ghost_pieces.specs.Lemmas.OwedLists.{is_some_step, pieces_between, step_at};
 
-use crate::parts::parts_of;
+use crate::counts::{Counts, Reach, reach_of};
 use crate::piece::Piece;
 use block_fields::Block;
 use block_index::{Domain, Place};
@@ -84,81 +84,145 @@ fn add_between(
     requires far { sender.level ≤ receiver.level + 1 }
     ensures added { IfOk result (λ unit. found.new.items ≡ found.old.items ++ pieces_between domain.now n depth fields j receiver i sender) }
 {
-    for k in 0..27 {
-        add_toward(
-            alloc, n, depth, fields, domain, j, receiver, i, sender, k, found,
-        )?;
+    let reach = reach_of(n, depth, domain, receiver, sender);
+    let pair = Pair {
+        to: j,
+        from: i,
+        receiver,
+        sender,
+        fields,
+    };
+    add_reached(alloc, &pair, &reach, found)?;
+    Ok(())
+}
+
+/// A leaf, one that owes it pieces, and for how many fields.
+#[derive(Debug, Clone, Copy)]
+struct Pair {
+    to: u32,
+    from: u32,
+    receiver: Place,
+    sender: Place,
+    fields: u8,
+}
+
+/// Adds the pieces of a pair, by the counts of the steps along the axes.
+fn add_reached(
+    alloc: Global,
+    pair: &Pair,
+    reach: &Reach,
+    found: &mut Vec<Piece>,
+) -> Result<(), Memory>
+    requires few_x { AreFew reach.now.x.before reach.now.x.own reach.now.x.after }
+    requires few_y { AreFew reach.now.y.before reach.now.y.own reach.now.y.after }
+    requires few_z { AreFew reach.now.z.before reach.now.z.own reach.now.z.after }
+    ensures added { IfOk result (λ unit. found.new.items ≡ found.old.items ++ reached_pieces pair.now.fields pair.now.to pair.now.receiver pair.now.from pair.now.sender
+        (count_at reach.now.x.before reach.now.x.own reach.now.x.after) (count_at reach.now.y.before reach.now.y.own reach.now.y.after)
+        (count_at reach.now.z.before reach.now.z.own reach.now.z.after)) }
+{
+    for z in 0..3 {
+        add_plane(alloc, pair, reach.x, reach.y, reach.z.at(z), z, found)?;
     }
     Ok(())
 }
 
-/// Adds the piece that a leaf owes to another in the direction with a number, if there is one.
-fn add_toward(
+/// Adds those of a plane of directions, whose regions are so deep. There are none where that is 0.
+fn add_plane(
     alloc: Global,
-    n: usize,
-    depth: usize,
-    fields: u8,
-    domain: &Domain,
-    j: u32,
-    receiver: Place,
-    i: u32,
-    sender: Place,
-    k: u8,
+    pair: &Pair,
+    wide: Counts,
+    high: Counts,
+    deep: usize,
+    z: u8,
     found: &mut Vec<Piece>,
 ) -> Result<(), Memory>
-    requires least { 4 ≤ n }
-    requires most { n ≤ 16 }
-    requires even { n % 2 ≡ 0 }
-    requires some { 0 < depth }
-    requires deep { 2 * depth ≤ n }
-    requires inside { IsInside domain.now receiver }
-    requires near { receiver.level ≤ sender.level + 1 }
-    requires far { sender.level ≤ receiver.level + 1 }
-    requires number { k < 27 }
-    ensures added { IfOk result (λ unit. found.new.items ≡ found.old.items ++ pieces_toward domain.now n depth fields j receiver i sender (steps_at k)) }
+    requires few_x { AreFew wide.before wide.own wide.after }
+    requires few_y { AreFew high.before high.own high.after }
+    requires few { deep ≤ 16 }
+    requires number { z < 3 }
+    ensures added { IfOk result (λ unit. found.new.items ≡ found.old.items ++ plane_pieces pair.now.fields pair.now.to pair.now.receiver pair.now.from pair.now.sender
+        (count_at wide.before wide.own wide.after) (count_at high.before high.own high.after) deep z) }
 {
-    let Some(d) = direction_at(k) else {
+    if deep == 0 {
         return Ok(());
-    };
-    let size = size_between(n, depth, domain, receiver, d, sender);
+    }
+    for y in 0..3 {
+        add_row(alloc, pair, wide, deep * high.at(y), y, z, found)?;
+    }
+    Ok(())
+}
+
+/// Adds those of a row of directions, whose regions have so many rows of cells. There are none where that is 0.
+fn add_row(
+    alloc: Global,
+    pair: &Pair,
+    wide: Counts,
+    area: usize,
+    y: u8,
+    z: u8,
+    found: &mut Vec<Piece>,
+) -> Result<(), Memory>
+    requires few_x { AreFew wide.before wide.own wide.after }
+    requires few { area ≤ 256 }
+    requires number_y { y < 3 }
+    requires number_z { z < 3 }
+    ensures added { IfOk result (λ unit. found.new.items ≡ found.old.items ++ row_pieces pair.now.fields pair.now.to pair.now.receiver pair.now.from pair.now.sender
+        (count_at wide.before wide.own wide.after) area y z) }
+{
+    if area == 0 {
+        return Ok(());
+    }
+    for x in 0..3 {
+        add_piece(alloc, pair, area * wide.at(x), x, y, z, found)?;
+    }
+    Ok(())
+}
+
+/// Adds the piece in a direction whose region has so many cells, if there are any.
+fn add_piece(
+    alloc: Global,
+    pair: &Pair,
+    size: usize,
+    x: u8,
+    y: u8,
+    z: u8,
+    found: &mut Vec<Piece>,
+) -> Result<(), Memory>
+    requires number_x { x < 3 }
+    requires number_y { y < 3 }
+    requires number_z { z < 3 }
+    ensures added { IfOk result (λ unit. found.new.items ≡ found.old.items ++ piece_of_size pair.now.fields pair.now.to pair.now.receiver pair.now.from pair.now.sender
+        size (record { x = step_at x; y = step_at y; z = step_at z })) }
+{
     if size == 0 {
         return Ok(());
     }
-    found.push(Piece::empty(alloc, j, i, receiver, sender, d, fields, size)?)?;
+    let Some(d) = direction_of(x, y, z) else {
+        return Ok(());
+    };
+    found.push(Piece::empty(
+        alloc,
+        pair.to,
+        pair.from,
+        pair.receiver,
+        pair.sender,
+        d,
+        pair.fields,
+        size,
+    )?)?;
     Ok(())
 }
 
-/// How many ghost cells of a receiver in a direction have their samples with a sender.
-fn size_between(
-    n: usize,
-    depth: usize,
-    domain: &Domain,
-    receiver: Place,
-    d: Direction,
-    sender: Place,
-) -> usize
-    requires least { 4 ≤ n }
-    requires most { n ≤ 16 }
-    requires even { n % 2 ≡ 0 }
-    requires some { 0 < depth }
-    requires deep { 2 * depth ≤ n }
-    requires inside { IsInside domain.now receiver }
-    requires near { receiver.level ≤ sender.level + 1 }
-    requires far { sender.level ≤ receiver.level + 1 }
-    ensures size { result ≡ box_size (reached_box domain.now n depth receiver d sender) }
+/// The direction of three steps with numbers, unless it steps nowhere.
+fn direction_of(x: u8, y: u8, z: u8) -> Option<Direction>
+    requires number_x { x < 3 }
+    requires number_y { y < 3 }
+    requires number_z { z < 3 }
+    ensures value { IfSome result (λ d. d ≡ record { x = step_at x; y = step_at y; z = step_at z }) }
+    ensures some { IfSome result (λ d. is_some_step (record { x = step_at x; y = step_at y; z = step_at z }) ≡ true) }
+    ensures none { IsNone result → is_some_step (record { x = step_at x; y = step_at y; z = step_at z }) ≡ false }
 {
-    let parts = parts_of(n, depth, domain, receiver, d, sender);
-    parts.z.count * parts.y.count * parts.x.count
-}
-
-/// The direction with a number of 27, of which one steps nowhere.
-fn direction_at(k: u8) -> Option<Direction>
-    requires number { k < 27 }
-    ensures value { IfSome result (λ d. d ≡ steps_at k) }
-    ensures some { IfSome result (λ d. is_some_step (steps_at k) ≡ true) }
-    ensures none { IsNone result → is_some_step (steps_at k) ≡ false }
-{
-    Direction::new(step_at(k % 3), step_at(k / 3 % 3), step_at(k / 9))
+    Direction::new(step_at(x), step_at(y), step_at(z))
 }
 
 /// The step with a number of three.

@@ -44,7 +44,7 @@ fn axis_part(
 }
 
 /// An axis of a level.
-fn side_of(trees: u16, wraps: bool, level: u8, at: u16) -> Side
+pub(crate) fn side_of(trees: u16, wraps: bool, level: u8, at: u16) -> Side
     requires trees { trees ≤ 16 }
     requires level { level ≤ 6 }
     requires at { at < trees * 2 ^ level }

@@ -1,5 +1,5 @@
 -- What a leaf owes as a list: over the leaf itself and those that touch it, and over the directions.
-use Rattle.std.specs.Prelude.{ℕ, cond, zero, suc, Bool, true, false, not, ◌&&◌, ℤ, List, [], ◌∷◌, ◌/◌, ◌%◌, map, slice_index_or, pos, negsuc}
+use Rattle.std.specs.Prelude.{ℕ, cond, zero, suc, Bool, true, false, not, ◌&&◌, ℤ, List, [], ◌∷◌, map, slice_index_or, pos, negsuc}
 use Rattle.std.specs.List.{filter, flat_map}
 use Rattle.block_index.specs.Beyond.{Offset}
 use Rattle.block_index.specs.Places.{Cube, Grid}
@@ -30,14 +30,11 @@ regions_between grid n d j b i s =
 abbrev pub owed : Grid → ℕ → ℕ → List Cube → ℕ → Cube → List ℕ → List Region
 owed grid n d mesh i s js = flat_map (λ j. regions_between grid n d j (slice_index_or mesh j s) i s) (i ∷ js)
 
--- the number k of all 27 triples of steps
+-- the step with a number of three
 abbrev pub step_at : ℕ → ℤ
 step_at zero = negsuc 0
 step_at (suc zero) = pos 0
 step_at (suc (suc k)) = pos 1
-
-abbrev pub steps_at : ℕ → Offset
-steps_at k = record { x = step_at (k % 3); y = step_at (k / 3 % 3); z = step_at (k / 9) }
 
 -- the empty pieces of these regions
 abbrev pub pieces_between : Grid → ℕ → ℕ → ℕ → ℕ → Cube → ℕ → Cube → List PieceState

@@ -1,31 +1,19 @@
-use Rattle.std.proofs.Common.{◌≡◌, ◌&&◌, ◌++◌, map, take, ap, ◌∙◌, arith}
-use Rattle.std.specs.List.{filter}
-use Rattle.block_index.specs.Beyond.{Offset}
-use Rattle.ghost_pieces.specs.Boxes.{reached_box, has_cells}
-use Rattle.ghost_pieces.specs.Pieces.{empty_piece}
-use Rattle.ghost_pieces.specs.Lemmas.OwedLists.{directions, is_some_step, pieces_toward, steps_at}
-use Rattle.ghost_pieces.proofs.Directions.{directions-all, directions-at}
-use Rattle.ghost_pieces.proofs.OwedPieces.{toward-next}
+use Rattle.std.proofs.Common.{◌*◌, ◌^◌, ◌++◌, ap, ◌∙◌}
+use Rattle.ghost_pieces.specs.Boxes.{span}
+use Rattle.ghost_pieces.specs.Lemmas.Counts.{count_at}
+use Rattle.ghost_pieces.proofs.SizedPieces.{count-at, counted}
 use Rattle.ghost_pieces.proofs.owing.add_between.Goals as goal
-
-pub loop-k-preserved : goal.loop-k-preserved
-loop-k-preserved c =
-    let a = c.args in
-    let g = a.domain.now in
-    let k = c.loop-k.k in
-    c.in_ok-add_toward.ensures.added
-    ∙ ap (λ u. u ++ pieces_toward g a.n a.depth a.fields a.j a.receiver a.i a.sender (steps_at k)) c.loop-k.invariant
-    ∙ toward-next g a.n a.depth a.fields a.j a.receiver a.i a.sender k a.found.now.items c.loop-k-test.true (directions-at k (steps_at k) c.loop-k-test.true)
 
 pub returns : goal.returns
 returns c =
     let a = c.args in
-    let old = a.found.now.items in
-    let f = λ (dir : Offset). empty_piece a.n a.depth a.fields a.j a.receiver a.i a.sender dir in
-    let t = λ (dir : Offset). is_some_step dir && has_cells (reached_box a.domain.now a.n a.depth a.receiver dir a.sender) in
-    let e : c.loop-k.k ≡ 27 = omega (arith, c.loop-k-test.false, c.loop-k.auto.k-end) in
-    record {
-      added = c.loop-k.invariant
-          ∙ ap (λ u. old ++ map f (filter t (take u directions))) e
-          ∙ ap (λ u. old ++ map f (filter t u)) directions-all;
-    }
+    let g = a.domain.now in
+    let b = a.receiver in
+    let s = a.sender in
+    let r = c.reach_of-reach.result in
+    let w = span a.n b.level s.level in
+    let all = counted g a.n a.depth a.fields a.j b a.i s (count_at r.x.before r.x.own r.x.after) (count_at r.y.before r.y.own r.y.after) (count_at r.z.before r.z.own r.z.after)
+    (count-at a.n a.depth (g.trees_x * 2 ^ b.level) g.wraps_x b.x w s.x r.x.before r.x.own r.x.after c.reach_of-reach.ensures.x)
+    (count-at a.n a.depth (g.trees_y * 2 ^ b.level) g.wraps_y b.y w s.y r.y.before r.y.own r.y.after c.reach_of-reach.ensures.y)
+    (count-at a.n a.depth (g.trees_z * 2 ^ b.level) g.wraps_z b.z w s.z r.z.before r.z.own r.z.after c.reach_of-reach.ensures.z) in
+    record { added = c.in_ok-add_reached.ensures.added ∙ ap (λ u. a.found.now.items ++ u) all }

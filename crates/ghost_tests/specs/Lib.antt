@@ -1,0 +1,2 @@
+-- What the tests know of the pieces that they deliver.
+pub mod Delivering
