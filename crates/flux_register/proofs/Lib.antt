@@ -1,5 +1,5 @@
 -- From small to large: single blocks and faces, pieces, a cell after its messages, and what stands in each state and at
--- rest.
+-- rest; then what an advance by upwind fluxes makes of blocks, how the phase begins, and what flows out of the domain.
 pub mod Corrections
 pub mod Coordinates
 pub mod SixSides
@@ -17,3 +17,12 @@ pub mod EachState
 pub mod Finer
 pub mod Rest
 pub mod SettledBlocks
+pub mod Upwind
+pub mod Beside
+pub mod CoarserAcross
+pub mod FoundFaces
+pub mod FirstBlocks
+pub mod Beginning
+pub mod OuterSums
+pub mod OuterLeaves
+pub mod OuterFlows

@@ -6,3 +6,4 @@ pub mod Made
 pub mod Problem
 pub mod States
 pub mod Lemmas
+pub mod Examples

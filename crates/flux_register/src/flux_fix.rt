@@ -1,10 +1,21 @@
-//! The flux correction as a phase over messages: its handling and its laws.
+//! The flux correction as a phase over messages: its beginning and its handling.
+
+ghost use Rattle.std.specs.Prelude.{◌≡◌, ℕ, IfOk, length, map};
+ghost use Rattle.block_fields.specs.BlockStates.{AreBlocksOf, state_before};
+ghost use Rattle.grid_fluxes.specs.Fluxes.{Fluxes};
+ghost use Rattle.flux_register.specs.Cells.{problem_of, state_in, unadvanced};
+ghost use Rattle.flux_register.specs.Made.{AreAdvancedBy, IsMadeBy};
+ghost use Rattle.flux_register.specs.Problem.{FluxFixBegins};
 
 use crate::cell::FluxCell;
+use crate::first_cells::first_cells;
 use crate::flux_msg::FluxMsg;
 use crate::problem::Problem;
+use advect::FaceFluxes;
+use block_fields::Block;
 use block_index::Domain;
 use cello_num::Memory;
+use leaf_set::LeafSet;
 use phase_core::{Outbox, Phase};
 use std::alloc::Global;
 use std::marker::Model;
@@ -92,5 +103,43 @@ impl Phase for FluxFix {
             FluxMsg::Piece(piece) => cell.correct(piece),
         }
         Ok(())
+    }
+}
+
+impl FluxFix {
+    /// The phase over the blocks of a leaf set, which are all of one size, and its cells in the order of the leaves. The
+    /// blocks and the fluxes of their faces are what an advance by each block's own fluxes made of them. It takes the
+    /// room of all pieces, so that a message is handled without memory but for the outbox's.
+    pub fn begin(
+        alloc: Global,
+        set: &LeafSet,
+        blocks: Vec<Block>,
+        faces: Vec<FaceFluxes>,
+    ) -> Result<(FluxFix, Vec<FluxCell>), Memory>
+        requires made { (n : ℕ) × (fields : ℕ) × (depth : ℕ) × (fluxes : Fluxes) × AreAdvancedBy set.now.grid set.now.places n fields depth blocks.items faces.items fluxes }
+        ensures grid { IfOk result (λ r. (problem_of r.0 r.1.items).setting.grid ≡ set.now.grid) }
+        ensures sizes { (n fields depth : ℕ) → AreBlocksOf set.now.places n fields depth blocks.items →
+            IfOk result (λ r. r.0 ≡ record { grid = set.now.grid; edge = n; fields = fields }) }
+        ensures state { (n fields depth : ℕ) → AreBlocksOf set.now.places n fields depth blocks.items →
+            IfOk result (λ r. state_in (problem_of r.0 r.1.items) ≡ state_before set.now.grid n fields blocks.items) }
+        ensures parts { IfOk result (λ r. map (λ k. k.before) (problem_of r.0 r.1.items).parts ≡ map unadvanced blocks.items) }
+        ensures made { (n fields depth : ℕ) (fluxes : Fluxes) → AreAdvancedBy set.now.grid set.now.places n fields depth blocks.items faces.items fluxes →
+            IfOk result (λ r. IsMadeBy (problem_of r.0 r.1.items) fluxes) }
+        ensures begins { IfOk result (λ r. FluxFixBegins (problem_of r.0 r.1.items) r.1.items) }
+    {
+        let phase = FluxFix::over(*set.domain(), &blocks[0]);
+        let cells = first_cells(alloc, set, blocks, faces)?;
+        Ok((phase, cells))
+    }
+
+    /// The phase over blocks of the size of this one.
+    fn over(domain: Domain, block: &Block) -> FluxFix
+        ensures { result ≡ record { grid = domain; edge = block.now.edge; fields = length block.now.amounts } }
+    {
+        FluxFix {
+            domain,
+            edge: block.edge(),
+            fields: block.fields(),
+        }
     }
 }
