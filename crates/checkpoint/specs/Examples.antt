@@ -1,12 +1,12 @@
 -- Values found by hand.
-use Rattle.std.specs.Prelude.{◌≡◌, ℕ, List, [], ◌∷◌, ◌++◌, length, map, refl, replicate, take}
+use Rattle.std.specs.Prelude.{◌≡◌, [], ◌∷◌, length, map, refl, replicate, take}
 use Rattle.std.specs.List.{flat_map}
 use Rattle.params_check.specs.Examples.{drop_text}
 use Rattle.params_check.specs.Parameters.{Parameters}
 use Rattle.checkpoint.specs.Parts.{parts_of_version_1}
 use Rattle.checkpoint.specs.SavedStates.{SavedState}
 use Rattle.checkpoint.specs.Spelling.{bytes_of, numbers_bytes, part_bytes}
-use Rattle.checkpoint.specs.declared.part.Part.TheVariants.{Magic, Version, TextLength, Cycle}
+use Rattle.checkpoint.specs.declared.part.Part.TheVariants.{Magic, Version, TextLength}
 
 -- One root block of 4 * 4 * 4 cells with one field, of which the fourth cell holds 1, before the first cycle.
 abbrev drop_state : Parameters → SavedState

@@ -2,5 +2,6 @@
 pub mod Parts
 pub mod SavedStates
 pub mod Spelling
+pub mod Reading
 pub mod Examples
 pub mod Lemmas

@@ -1,5 +1,5 @@
 -- What a checkpoint keeps of a run.
-use Rattle.std.specs.Prelude.{ℕ, List, length, map, take}
+use Rattle.std.specs.Prelude.{◌≡◌, ℕ, ◌≤◌, List, length, map, slice_index, take}
 use Rattle.block_index.specs.Places.{Cube}
 use Rattle.block_fields.specs.Blocks.{BlockState}
 use Rattle.params_check.specs.Parameters.{Parameters}
@@ -26,3 +26,7 @@ saved p cycle places blocks ledger = record {
   totals = take (length p.fields) ledger.total;
   gone = take (length p.fields) ledger.gone;
 }
+
+-- a list of numbers for the fields holds 0 for those from this one on
+abbrev pub AreZeroFrom : ℕ → List ℕ → Type 0
+AreZeroFrom fields numbers = (f : ℕ) → fields ≤ f → slice_index numbers f ≡ 0
