@@ -1,0 +1,11 @@
+pub mod Lists
+pub mod Sorting
+pub mod Handling
+pub mod OneMore
+pub mod Holding
+pub mod Founds
+pub mod Stopping
+pub mod Ranks
+pub mod DealtOut
+pub mod PutBack
+pub mod Ending
