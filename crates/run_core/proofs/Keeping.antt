@@ -1,123 +1,86 @@
 -- What a run keeps at each step, taken out and put back.
-use Rattle.std.proofs.Common.{◌≡◌, ℕ, ◌+◌, ◌-◌, ◌^◌, ◌<◌, ◌≤◌, ◌⊎◌, List, [], length, nat_lt, sym, ap, ◌∙◌, subst, arith, inl, inr}
-use Rattle.std.proofs.lemmas.Bool.{cases_Bool, cond-true, cond-false, ltb-true}
-use Rattle.std.proofs.lemmas.Bool.Decides.{nat_tests}
-use Rattle.std.proofs.lemmas.List.{length-map}
-use Rattle.block_index.specs.Places.{Cube}
-use Rattle.block_index.specs.declared.wish.Wish.{Wish}
-use Rattle.leaf_set.specs.RootMesh.{root_mesh}
+use Rattle.std.proofs.Common.{◌≡◌, ℕ, ◌+◌, ◌^◌, ◌<◌, ◌≤◌, List, length, sym, ap, ◌∙◌, subst}
 use Rattle.leaf_set.specs.Tiling.{Tiling}
 use Rattle.block_fields.specs.Blocks.{BlockState}
-use Rattle.block_fields.specs.States.{State, total}
-use Rattle.initial_fill.specs.RootBlocks.{initial_state}
-use Rattle.params_check.specs.Parameters.{IsParameters, Parameters}
-use Rattle.criteria.specs.Wishes.{wish_of}
-use Rattle.run_core.specs.declared.fault.RunFault.{RunFault}
-use Rattle.run_core.specs.declared.fault.RunFault.TheVariants.{Memory}
+use Rattle.block_fields.specs.States.{IsState, State, total}
+use Rattle.amount_ledger.specs.Ledgers.{LedgerState}
 use Rattle.run_core.specs.declared.step.Stage.{Stage}
 use Rattle.run_core.specs.declared.step.Stage.TheVariants.{Next, Out}
 use Rattle.run_core.specs.declared.step.Step.{Step}
-use Rattle.run_core.specs.declared.step.Step.TheVariants.{Refresh, Adapt, Emit}
-use Rattle.run_core.specs.Runs.{AreBlocksFor, KeepsLevelLimit, PassesLimit, PhasePasses, RunState, blocks_state, phase_wishes, run_state}
-use Rattle.run_core.specs.Steps.{after_phase, steps_left}
-use Rattle.run_core.specs.Works.{AreWishes, HoldState, PassesNext, Standing, StandsAt}
-use Rattle.run_core.specs.Lemmas.Keeping.{KeepsAt, KeepsNext, KeepsOut}
-use Rattle.run_core.proofs.OneRun.{Runs-one}
-use Rattle.run_core.proofs.RunTotals.{Runs-most}
+use Rattle.run_core.specs.declared.step.Step.TheVariants.{Refresh, Wishes, Adapt, RefreshAgain, Advance, Flux, Emit, Ended}
+use Rattle.run_core.specs.Courses.{Course, RunState}
+use Rattle.run_core.specs.CourseLimits.{IsCourse, KeepsTotals}
+use Rattle.run_core.specs.Runs.{blocks_state}
+use Rattle.run_core.specs.Works.{AdaptsTo, AreWithinLimits, EndsIn, IsStateAt, Standing, standing}
+use Rattle.run_core.specs.Lemmas.Keeping.{Hands, KeepsAt, KeepsNext, KeepsOut, KeepsRun}
+use Rattle.run_core.proofs.RunTotals.{Runs-keeps, between-keeps, total-most}
 
-module _ (p : Parameters) (phase : ℕ) (mesh : List Cube) (blocks : List BlockState) where
-  pub HoldState-StandsAt : phase ≤ p.rounds → HoldState p phase mesh blocks → StandsAt p phase mesh
-  HoldState-StandsAt within h = record { within = within; run = run_state (blocks_state p blocks) h.leaves; runs = h.runs; ends_on = h.are_blocks.places }
+module _ (c : Course) (set : Tiling) (ledger : LedgerState) (phase : ℕ) (hands : Hands) (kind : Step) (stage : Stage) (s : Standing)
+    (seen : standing c set ledger phase kind stage ≡ s) where
+  pub seen-step : (at : Step) → s.step ≡ at → kind ≡ at
+  seen-step at step = ap (λ (x : Standing). x.step) seen ∙ step
 
-  module _ (wishes : List Wish) where
-    pub kept-next : (stage : Stage) (step kind : Step) → stage ≡ Next → step ≡ kind → KeepsAt stage step p phase mesh blocks wishes
-        → KeepsNext kind p phase mesh blocks wishes
-    kept-next stage step kind a b keeps =
-        subst (λ (k : Step). KeepsNext k p phase mesh blocks wishes) b (subst (λ (g : Stage). KeepsAt g step p phase mesh blocks wishes) a keeps)
+  pub seen-stage : (at : Stage) → s.stage ≡ at → stage ≡ at
+  seen-stage at is = ap (λ (x : Standing). x.stage) seen ∙ is
 
-    pub kept-out : (stage : Stage) (step kind : Step) → stage ≡ Out → step ≡ kind → KeepsAt stage step p phase mesh blocks wishes
-        → KeepsOut kind p phase mesh blocks wishes
-    kept-out stage step kind a b keeps =
-        subst (λ (k : Step). KeepsOut k p phase mesh blocks wishes) b (subst (λ (g : Stage). KeepsAt g step p phase mesh blocks wishes) a keeps)
+  -- the run as it was seen, at a step that is known
+  pub seen-here : (at : Step) → s.step ≡ at → s ≡ standing c set ledger phase at stage
+  seen-here at step = sym seen ∙ ap (λ (k : Step). standing c set ledger phase k stage) (seen-step at step)
 
-    pub kept-after : phase ≤ p.rounds → HoldState p phase mesh blocks → KeepsNext (after_phase p phase) p phase mesh blocks wishes
-    kept-after within holds =
-        elim (cases_Bool (nat_lt phase p.rounds)) [
-          | inl t ↦ subst (λ (k : Step). KeepsNext k p phase mesh blocks wishes) (sym (cond-true (nat_lt phase p.rounds) Refresh Emit t))
-              (record { more = ltb-true phase p.rounds t; holds = holds })
-          | inr f ↦ subst (λ (k : Step). KeepsNext k p phase mesh blocks wishes) (sym (cond-false (nat_lt phase p.rounds) Refresh Emit f))
-              (record { all = grind (arith, nat_tests); holds = holds })
-        ]
+  pub kept-next : (at : Step) → s.stage ≡ Next → s.step ≡ at → KeepsRun c set ledger phase kind stage hands → KeepsNext at c phase set.places hands
+  kept-next at next step keeps =
+      subst (λ (k : Step). KeepsNext k c phase set.places hands) (seen-step at step)
+      (subst (λ (g : Stage). KeepsAt g kind c phase set.places hands) (seen-stage Next next) keeps.keeps)
 
--- the root blocks hold the state before the first phase
-pub HoldState-begin : (p : Parameters) (mesh : List Cube) (blocks : List BlockState) → mesh ≡ root_mesh p.grid → AreBlocksFor p (root_mesh p.grid) blocks
-    → blocks_state p blocks ≡ initial_state p → HoldState p 0 mesh blocks
-HoldState-begin p mesh blocks is are state = record {
-  are_blocks = subst (λ (places : List Cube). AreBlocksFor p places blocks) (sym is) are;
-  leaves = [];
-  runs = ap (λ s. run_state s []) state;
-}
+  pub kept-out : (at : Step) → s.stage ≡ Out → s.step ≡ at → KeepsRun c set ledger phase kind stage hands → KeepsOut at c phase set.places hands
+  kept-out at out step keeps =
+      subst (λ (k : Step). KeepsOut k c phase set.places hands) (seen-step at step)
+      (subst (λ (g : Stage). KeepsAt g kind c phase set.places hands) (seen-stage Out out) keeps.keeps)
 
--- a phase that ended leaves fewer works
-pub fewer-after : (p : Parameters) (phase : ℕ) → phase < p.rounds → steps_left (after_phase p (phase + 1)) (p.rounds - (phase + 1)) < steps_left Adapt (p.rounds - phase)
-fewer-after p phase more =
-    elim (cases_Bool (nat_lt (phase + 1) p.rounds)) [
-      | inl t ↦
-          let less : phase + 1 < p.rounds = ltb-true (phase + 1) p.rounds t in
-          subst (λ (k : Step). steps_left k (p.rounds - (phase + 1)) < steps_left Adapt (p.rounds - phase)) (sym (cond-true (nat_lt (phase + 1) p.rounds) Refresh Emit t)) (omega arith)
-      | inr f ↦ subst (λ (k : Step). steps_left k (p.rounds - (phase + 1)) < steps_left Adapt (p.rounds - phase)) (sym (cond-false (nat_lt (phase + 1) p.rounds) Refresh Emit f)) (omega arith)
-    ]
+-- the same with other work in hand
+pub keeps-with : (c : Course) (set : Tiling) (ledger : LedgerState) (phase : ℕ) (kind : Step) (stage other : Stage) (hands new : Hands)
+    → KeepsRun c set ledger phase kind stage hands → KeepsAt other kind c phase set.places new → KeepsRun c set ledger phase kind other new
+keeps-with c set ledger phase kind stage other hands new keeps with_new =
+    record { limits = keeps.limits; grid = keeps.grid; stands = keeps.stands; has_ledger = keeps.has_ledger; keeps = with_new }
 
--- the totals of a state that blocks hold
-pub few-shown : (p q : Parameters) (phase : ℕ) (mesh : List Cube) (blocks shown : List BlockState) → p ≡ q → shown ≡ blocks → IsParameters p
-    → HoldState p phase mesh blocks → (f : ℕ) → f < length q.fields → total (blocks_state q shown) f ≤ 2 ^ 40
-few-shown p q phase mesh blocks shown same is w holds =
-    let each : (f : ℕ) → f < length p.fields → total (blocks_state p shown) f ≤ 2 ^ 40 =
-    λ f h. subst (λ (bs : List BlockState). total (blocks_state p bs) f ≤ 2 ^ 40) (sym is)
-    (Runs-most p w phase f (run_state (blocks_state p blocks) holds.leaves) holds.runs h) in
-    subst (λ (x : Parameters). (f : ℕ) → f < length x.fields → total (blocks_state x shown) f ≤ 2 ^ 40) same each
+-- the state at each step is within the limits
+module _ (c : Course) (w : IsCourse c) (phase : ℕ) (state : State) where
+  record IsWithin : Type 0 where
+    is : IsState state
+    few : (f : ℕ) → f < length c.parameters.fields → total state f ≤ 2 ^ 40
 
--- the wishes of a phase and the blocks of its state
-module _ (p : Parameters) (phase : ℕ) (mesh : List Cube) (blocks : List BlockState) (wishes : List Wish) (holds : HoldState p phase mesh blocks)
-    (asked : AreWishes p phase wishes) where
-  -- the wishes are those of the state that the blocks hold
-  pub wishes-blocks : wishes ≡ phase_wishes p (phase + 1) (blocks_state p blocks)
-  wishes-blocks =
-      asked.are
-      ∙ ap (λ (r : RunState). phase_wishes p (phase + 1) r.state)
-      (Runs-one p phase asked.run (run_state (blocks_state p blocks) holds.leaves) asked.runs holds.runs)
+  ended-within : EndsIn c phase state → IsWithin
+  ended-within e =
+      let keeps = Runs-keeps c w phase e.run e.runs in
+      record {
+        is = subst (λ (s : State). IsState s) e.is keeps.state;
+        few = λ f h. subst (λ (s : State). total s f ≤ 2 ^ 40) e.is (total-most c.parameters w.limits e.run keeps f h);
+      }
 
-  pub wishes-one_each : length wishes ≡ length mesh
-  wishes-one_each =
-      let s : State = blocks_state p blocks in
-      ap (λ (ws : List Wish). length ws) wishes-blocks ∙ length-map s.leaves (wish_of (phase + 1) p.criteria s)
-      ∙ ap (λ (places : List Cube). length places) holds.are_blocks.places
+  adapted-within : AdaptsTo c phase state → IsWithin
+  adapted-within e =
+      let t : RunState = record { state = state; ledger = e.run.ledger; told = e.run.told } in
+      let keeps : KeepsTotals c.parameters t =
+      between-keeps c.parameters w.limits (c.ended + phase + 1) e.run state (Runs-keeps c w phase e.run e.runs) e.adapts in
+      record { is = keeps.state; few = total-most c.parameters w.limits t keeps }
 
-  -- other wishes of the phase are the same
-  pub wishes-same : (others : List Wish) → AreWishes p phase others → wishes ≡ others
-  wishes-same others b = asked.are ∙ ap (λ (r : RunState). phase_wishes p (phase + 1) r.state) (Runs-one p phase asked.run b.run asked.runs b.runs) ∙ sym b.are
+  within : (kind : Step) → IsStateAt kind c phase state → IsWithin
+  within Refresh h = ended-within h
+  within Wishes h = ended-within h
+  within Adapt h = ended-within h
+  within RefreshAgain h = adapted-within h
+  within Advance h = adapted-within h
+  within Flux h = adapted-within h
+  within Emit h = ended-within h
+  within Ended h = ended-within h
 
-  pub wishes-limit : (others : List Wish) → AreWishes p phase others → KeepsLevelLimit p mesh wishes → KeepsLevelLimit p mesh others
-  wishes-limit others b keeps = subst (λ (ws : List Wish). KeepsLevelLimit p mesh ws) (wishes-same others b) keeps
+  pub state-is : (kind : Step) → IsStateAt kind c phase state → IsState state
+  state-is kind h = (within kind h).is
 
-  pub limit-passed : (fault : RunFault) → PassesLimit p (phase + 1) mesh wishes fault → PhasePasses p (phase + 1) (blocks_state p blocks) fault
-  limit-passed fault passes =
-      subst (λ (places : List Cube). PassesLimit p (phase + 1) places (phase_wishes p (phase + 1) (blocks_state p blocks)) fault) (sym holds.are_blocks.places)
-      (subst (λ (ws : List Wish). PassesLimit p (phase + 1) mesh ws fault) wishes-blocks passes)
+  pub state-few : (kind : Step) → IsStateAt kind c phase state → (f : ℕ) → f < length c.parameters.fields → total state f ≤ 2 ^ 40
+  state-few kind h = (within kind h).few
 
--- the next phase passes a limit
-pub passes-next : (p : Parameters) (set : Tiling) (phase : ℕ) (step : Step) (stage : Stage) (blocks : List BlockState) (wishes : List Wish) (s : Standing)
-    (fault : RunFault) → record { parameters = p; set = set; phase = phase; step = step; stage = stage } ≡ s → phase < p.rounds
-    → HoldState p phase set.places blocks → AreWishes p phase wishes
-    → (fault ≡ Memory) ⊎ PassesLimit p (phase + 1) set.places wishes fault → (fault ≡ Memory) ⊎ PassesNext s fault
-passes-next p set phase step stage blocks wishes s fault seen more holds asked ended =
-    elim ended [
-      | inl memory ↦ inl memory
-      | inr passes ↦
-          inr (subst (λ (t : Standing). PassesNext t fault) seen (record {
-            more = more;
-            run = run_state (blocks_state p blocks) holds.leaves;
-            runs = holds.runs;
-            passes = limit-passed p phase set.places blocks wishes holds asked fault passes;
-          }))
-    ]
+pub blocks-within : (c : Course) (w : IsCourse c) (phase : ℕ) (blocks : List BlockState) (kind : Step)
+    → IsStateAt kind c phase (blocks_state c.parameters blocks) → AreWithinLimits c.parameters blocks
+blocks-within c w phase blocks kind h =
+    record { state = state-is c w phase (blocks_state c.parameters blocks) kind h; few = state-few c w phase (blocks_state c.parameters blocks) kind h }

@@ -49,10 +49,3 @@ pub blocks-ended : (p : Parameters) (phase : ℕ) (grid : Grid) (mesh : List Cub
 blocks-ended p phase grid mesh wishes levels told count limit keeps same taken least is most many =
     let here : IsLeast p.grid mesh wishes levels = subst (λ (g : Grid). IsLeast g mesh wishes levels) same least in
     blocks-passed p phase mesh wishes levels count limit keeps here (is ∙ ap (λ (ls : List ℕ). length (next_mesh mesh ls)) taken) most many
-
--- the least levels, where the problem is that of a phase
-pub least-moved : (grid other : Grid) (mesh places : List Cube) (wishes asked : List Wish) (levels : List ℕ) → grid ≡ other → mesh ≡ places → wishes ≡ asked
-    → IsLeast grid mesh wishes levels → IsLeast other places asked levels
-least-moved grid other mesh places wishes asked levels a b c least =
-    subst (λ (ws : List Wish). IsLeast other places ws levels) c
-    (subst (λ (ps : List Cube). IsLeast other ps wishes levels) b (subst (λ (g : Grid). IsLeast g mesh wishes levels) a least))

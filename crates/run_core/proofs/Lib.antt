@@ -1,12 +1,19 @@
 -- Lemmas by subject.
-pub mod LevelLimits
-pub mod Phases
-pub mod PhaseMeshes
 pub mod OneRun
+pub mod PhaseMeshes
 pub mod RunExists
 pub mod PlainCounts
+pub mod RunPrefixes
+pub mod FieldLists
 pub mod RunTotals
+pub mod Telling
+pub mod Shown
+pub mod LevelLimits
+pub mod Refreshing
 pub mod Steps
 pub mod Keeping
-pub mod Refreshing
-pub mod RunPrefixes
+pub mod GivenWorks
+pub mod TakenPhases
+pub mod TakenAdvances
+pub mod Beginning
+pub mod Advancing

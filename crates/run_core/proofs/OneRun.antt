@@ -1,5 +1,5 @@
--- There is one run of the same parameters.
-use Rattle.std.proofs.Common.{◌≡◌, ℕ, zero, suc, ◌<◌, List, [], ◌∷◌, ◌++◌, length, Option, Some, sym, ap, ◌∙◌, subst, arith, inl, inr}
+-- There is one run of a course.
+use Rattle.std.proofs.Common.{◌≡◌, ℕ, zero, suc, ◌+◌, ◌<◌, List, length, Option, Some, sym, ap, ◌∙◌, subst, arith, inl, inr}
 use Rattle.std.proofs.lemmas.Option.{same_Some}
 use Rattle.std.proofs.lemmas.Bool.{cases_order}
 use Rattle.std.specs.Prelude.{slice_get}
@@ -13,7 +13,8 @@ use Rattle.leaf_set.proofs.Solutions.{IsLeast-one}
 use Rattle.params_check.specs.Parameters.{Parameters}
 use Rattle.run_core.specs.declared.fault.RunFault.{RunFault}
 use Rattle.run_core.specs.declared.fault.RunFault.TheVariants.{LevelLimit, BlockLimit}
-use Rattle.run_core.specs.Runs.{WishesTooFine, Decides, Adapts, PassesLimit, PhasePasses, phase_wishes, of_level, of_blocks, RunState, RunSteps, Runs, RunEnds, after_all, at_limit}
+use Rattle.run_core.specs.Courses.{Course, RunState, phases_of}
+use Rattle.run_core.specs.Runs.{WishesTooFine, Decides, Adapts, PassesLimit, PhasePasses, phase_wishes, of_level, of_blocks, RunSteps, Runs, RunEnds, after_all, after_step, at_limit}
 
 -- a state, and the limit that ended the run there, are others'
 record SameEnd (s t : RunState) (a b : Option RunFault) : Type 0 where
@@ -32,16 +33,8 @@ module _ (p : Parameters) where
 
   RunSteps-one : (phase : ℕ) (s t u : RunState) → RunSteps p phase s t → RunSteps p phase s u → t ≡ u
   RunSteps-one phase s t u a b =
-      let state : t.state ≡ u.state = Adapts-one phase s.state t.state u.state a.adapts b.adapts in
-      let more : State → List ℕ = λ after. s.leaves ++ length after.leaves ∷ [] in
-      let leaves : t.leaves ≡ u.leaves = a.leaves ∙ (ap more state ∙ sym b.leaves) in
-      λ i. record { state = state i; leaves = leaves i }
-
-  pub Runs-one : (phases : ℕ) (t u : RunState) → Runs p phases t → Runs p phases u → t ≡ u
-  Runs-one zero t u a b = a ∙ sym b
-  Runs-one (suc phases) t u a b =
-      let before : b.0 ≡ a.0 = Runs-one phases b.0 a.0 b.1 a.1 in
-      RunSteps-one (suc phases) a.0 t u a.2 (subst (λ (s : RunState). RunSteps p (suc phases) s u) before b.2)
+      let state : a.between ≡ b.between = Adapts-one phase s.state a.between b.between a.adapts b.adapts in
+      a.goes_on ∙ (ap (after_step p phase s) state ∙ sym b.goes_on)
 
   -- the leaf that a limit names is one
   same_leaf : (mesh : List Cube) (wishes : List Wish) (i j : ℕ) (c d : Cube) → WishesTooFine p mesh wishes i c → WishesTooFine p mesh wishes j d
@@ -72,14 +65,24 @@ module _ (p : Parameters) where
       let counts : length (next_mesh mesh levels) ≡ length (next_mesh mesh others) = ap (λ (ls : List ℕ). length (next_mesh mesh ls)) same in
       omega (arith, b.block_limit)
 
+module _ (c : Course) where
+  abbrev p : Parameters
+  p = c.parameters
+
+  pub Runs-one : (phases : ℕ) (t u : RunState) → Runs c phases t → Runs c phases u → t ≡ u
+  Runs-one zero t u a b = a ∙ sym b
+  Runs-one (suc phases) t u a b =
+      let before : b.0 ≡ a.0 = Runs-one phases b.0 a.0 b.1 a.1 in
+      RunSteps-one p (c.ended + suc phases) a.0 t u a.2 (subst (λ (s : RunState). RunSteps p (c.ended + suc phases) s u) before b.2)
+
   -- a run goes through each of its phases
   record Through (phases : ℕ) : Type 0 where
     before : RunState
     after : RunState
-    runs : Runs p phases before
-    steps : RunSteps p (suc phases) before after
+    runs : Runs c phases before
+    steps : RunSteps p (c.ended + suc phases) before after
 
-  through : (all phases : ℕ) (t : RunState) → phases < all → Runs p all t → Through phases
+  through : (all phases : ℕ) (t : RunState) → phases < all → Runs c all t → Through phases
   through zero phases t below runs = absurd (omega arith)
   through (suc all) phases t below runs =
       elim (cases_order phases all) [
@@ -88,38 +91,38 @@ module _ (p : Parameters) where
             record {
               before = runs.0;
               after = t;
-              runs = subst (λ k. Runs p k runs.0) (sym same) runs.1;
-              steps = subst (λ k. RunSteps p (suc k) runs.0 t) (sym same) runs.2;
+              runs = subst (λ k. Runs c k runs.0) (sym same) runs.1;
+              steps = subst (λ k. RunSteps p (c.ended + suc k) runs.0 t) (sym same) runs.2;
             }
         | inr (inr more) ↦ absurd (omega arith)
       ]
 
   -- a run that goes on past a phase passed no limit there
-  pub no_limit_within : (all phases : ℕ) (t s : RunState) (f : RunFault) → phases < all → Runs p all t → Runs p phases s → PhasePasses p (suc phases) s.state f → ⊥
+  pub no_limit_within : (all phases : ℕ) (t s : RunState) (f : RunFault) → phases < all → Runs c all t → Runs c phases s → PhasePasses p (c.ended + suc phases) s.state f → ⊥
   no_limit_within all phases t s f below runs some passes =
       let h = through all phases t below runs in
       let same : s ≡ h.before = Runs-one phases s h.before some h.runs in
-      let moved : PhasePasses p (suc phases) h.before.state f = subst (λ (u : RunState). PhasePasses p (suc phases) u.state f) same passes in
-      passes_or_decides (suc phases) h.before.state.leaves (phase_wishes p (suc phases) h.before.state) h.steps.adapts.levels f moved h.steps.adapts.decides
+      let moved : PhasePasses p (c.ended + suc phases) h.before.state f = subst (λ (u : RunState). PhasePasses p (c.ended + suc phases) u.state f) same passes in
+      passes_or_decides p (c.ended + suc phases) h.before.state.leaves (phase_wishes p (c.ended + suc phases) h.before.state) h.steps.adapts.levels f moved h.steps.adapts.decides
 
-  one_end : (s t : RunState) (a b : Option RunFault) → RunEnds p s a → RunEnds p t b → SameEnd s t a b
-  one_end s t a b (after_all runs none) (after_all course last) = record { state = Runs-one p.rounds s t runs course; limit = none ∙ sym last }
-  one_end s t a b (after_all runs none) (at_limit phases f below some passes is) = absurd (no_limit_within p.rounds phases s t f below runs some passes)
-  one_end s t a b (at_limit phases f below some passes is) (after_all runs none) = absurd (no_limit_within p.rounds phases t s f below runs some passes)
-  one_end s t a b (at_limit k f below runs passes is) (at_limit m g most course stops ends) =
+  one_end : (s t : RunState) (a b : Option RunFault) → RunEnds c s a → RunEnds c t b → SameEnd s t a b
+  one_end s t a b (after_all runs none) (after_all others last) = record { state = Runs-one (phases_of c) s t runs others; limit = none ∙ sym last }
+  one_end s t a b (after_all runs none) (at_limit phases f below some passes is) = absurd (no_limit_within (phases_of c) phases s t f below runs some passes)
+  one_end s t a b (at_limit phases f below some passes is) (after_all runs none) = absurd (no_limit_within (phases_of c) phases t s f below runs some passes)
+  one_end s t a b (at_limit k f below runs passes is) (at_limit m g most others stops ends) =
       elim (cases_order k m) [
-        | inr (inl less) ↦ absurd (no_limit_within m k t s f less course runs passes)
+        | inr (inl less) ↦ absurd (no_limit_within m k t s f less others runs passes)
         | inl same ↦
-            let states : s ≡ t = Runs-one k s t runs (subst (λ n. Runs p n t) (sym same) course) in
-            let moved : PhasePasses p (suc k) s.state g =
-            subst (λ (u : RunState). PhasePasses p (suc k) u.state g) (sym states) (subst (λ n. PhasePasses p (suc n) t.state g) (sym same) stops) in
-            let faults : f ≡ g = PassesLimit-one (suc k) s.state.leaves (phase_wishes p (suc k) s.state) f g passes moved in
+            let states : s ≡ t = Runs-one k s t runs (subst (λ n. Runs c n t) (sym same) others) in
+            let moved : PhasePasses p (c.ended + suc k) s.state g =
+            subst (λ (u : RunState). PhasePasses p (c.ended + suc k) u.state g) (sym states) (subst (λ n. PhasePasses p (c.ended + suc n) t.state g) (sym same) stops) in
+            let faults : f ≡ g = PassesLimit-one p (c.ended + suc k) s.state.leaves (phase_wishes p (c.ended + suc k) s.state) f g passes moved in
             record { state = states; limit = is ∙ ap Some faults ∙ sym ends }
-        | inr (inr more) ↦ absurd (no_limit_within k m s t g more runs course stops)
+        | inr (inr more) ↦ absurd (no_limit_within k m s t g more runs others stops)
       ]
 
-  pub RunEnds-state : (s t : RunState) (a b : Option RunFault) → RunEnds p s a → RunEnds p t b → s ≡ t
+  pub RunEnds-state : (s t : RunState) (a b : Option RunFault) → RunEnds c s a → RunEnds c t b → s ≡ t
   RunEnds-state s t a b x y = (one_end s t a b x y).state
 
-  pub RunEnds-limit : (s t : RunState) (a b : Option RunFault) → RunEnds p s a → RunEnds p t b → a ≡ b
+  pub RunEnds-limit : (s t : RunState) (a b : Option RunFault) → RunEnds c s a → RunEnds c t b → a ≡ b
   RunEnds-limit s t a b x y = (one_end s t a b x y).limit

@@ -14,10 +14,11 @@ use Rattle.adapt_core.proofs.OneProblem.{same_problem, same_cells}
 use Rattle.adapt_core.proofs.FirstProblems.{problem_exists, begins_exists, plain_run_exists}
 use Rattle.params_check.specs.Parameters.{Parameters}
 use Rattle.criteria.specs.Wishes.{wish_of}
-use Rattle.run_core.specs.Runs.{RunState, Runs, RunEnds, phase_wishes, after_all, at_limit}
+use Rattle.run_core.specs.Courses.{Course, RunState, phases_of}
+use Rattle.run_core.specs.Runs.{Runs, RunEnds, phase_wishes, after_all, at_limit}
 use Rattle.run_core.specs.PlainCounts.{IsPlainCount, CountsPhase, CountsPhases, HandlesPlainly}
 use Rattle.run_core.proofs.OneRun.{Runs-one}
-use Rattle.run_core.proofs.PhaseMeshes.{Runs-Tiles}
+use Rattle.run_core.proofs.PhaseMeshes.{Runs-Tiles, Tiles}
 
 pub IsPlainCount-one : (grid : Grid) (mesh : List Cube) (wishes : List Wish) (m n : ℕ) → IsPlainCount grid mesh wishes m → IsPlainCount grid mesh wishes n → m ≡ n
 IsPlainCount-one grid mesh wishes m n a b =
@@ -49,29 +50,34 @@ plain_count_exists grid mesh wishes g m balanced long =
       },
     )
 
-module _ (p : Parameters) where
-  CountsPhases-one : (phases m n : ℕ) → CountsPhases p phases m → CountsPhases p phases n → m ≡ n
+module _ (c : Course) where
+  abbrev p : Parameters
+  p = c.parameters
+
+  CountsPhases-one : (phases m n : ℕ) → CountsPhases c phases m → CountsPhases c phases n → m ≡ n
   CountsPhases-one zero m n a b = a ∙ sym b
   CountsPhases-one (suc phases) m n a b =
       let x = a.2 in
       let y = b.2 in
       let before : a.0 ≡ b.0 = CountsPhases-one phases a.0 b.0 a.1 b.1 in
-      let same : x.state ≡ y.state = Runs-one p phases x.state y.state x.runs y.runs in
-      let moved : IsPlainCount p.grid y.state.state.leaves (phase_wishes p (suc phases) y.state.state) x.count =
-      subst (λ (s : RunState). IsPlainCount p.grid s.state.leaves (phase_wishes p (suc phases) s.state) x.count) same x.plain in
-      let counts : x.count ≡ y.count = IsPlainCount-one p.grid y.state.state.leaves (phase_wishes p (suc phases) y.state.state) x.count y.count moved y.plain in
+      let same : x.state ≡ y.state = Runs-one c phases x.state y.state x.runs y.runs in
+      let phase : ℕ = c.ended + suc phases in
+      let moved : IsPlainCount p.grid y.state.state.leaves (phase_wishes p phase y.state.state) x.count =
+      subst (λ (s : RunState). IsPlainCount p.grid s.state.leaves (phase_wishes p phase s.state) x.count) same x.plain in
+      let counts : x.count ≡ y.count = IsPlainCount-one p.grid y.state.state.leaves (phase_wishes p phase y.state.state) x.count y.count moved y.plain in
       x.together ∙ (ap (λ k. a.0 + k) counts ∙ ap (λ k. k + y.count) before) ∙ sym y.together
 
-  CountsPhases-exists : (phases : ℕ) (s : RunState) → IsDomain p.grid → Runs p phases s → (n : ℕ) × CountsPhases p phases n
-  CountsPhases-exists zero s domain runs = (0, refl)
-  CountsPhases-exists (suc phases) s domain runs =
+  CountsPhases-exists : (phases : ℕ) (s : RunState) → Tiles p c.start.state.leaves → Runs c phases s → (n : ℕ) × CountsPhases c phases n
+  CountsPhases-exists zero s start runs = (0, refl)
+  CountsPhases-exists (suc phases) s start runs =
       let state : RunState = runs.0 in
-      let tiles = Runs-Tiles p phases state domain runs.1 in
+      let tiles = Runs-Tiles c phases state start runs.1 in
       let mesh : List Cube = state.state.leaves in
-      let wishes : List Wish = phase_wishes p (suc phases) state.state in
-      let plain = plain_count_exists p.grid mesh wishes domain tiles.mesh tiles.balanced (length-map mesh (wish_of (suc phases) p.criteria state.state)) in
-      let before = CountsPhases-exists phases state domain runs.1 in
-      let more : CountsPhase p phases before.0 (before.0 + plain.0) = record {
+      let phase : ℕ = c.ended + suc phases in
+      let wishes : List Wish = phase_wishes p phase state.state in
+      let plain = plain_count_exists p.grid mesh wishes start.domain tiles.mesh tiles.balanced (length-map mesh (wish_of phase p.criteria state.state)) in
+      let before = CountsPhases-exists phases state start runs.1 in
+      let more : CountsPhase c phases before.0 (before.0 + plain.0) = record {
         state = state;
         runs = runs.1;
         count = plain.0;
@@ -80,9 +86,9 @@ module _ (p : Parameters) where
       } in
       (before.0 + plain.0, (before.0, before.1, more))
 
-pub HandlesPlainly-one : (p : Parameters) (m n : ℕ) → HandlesPlainly p m → HandlesPlainly p n → m ≡ n
-HandlesPlainly-one p m n a b = CountsPhases-one p p.rounds m n a b
+  pub HandlesPlainly-one : (m n : ℕ) → HandlesPlainly c m → HandlesPlainly c n → m ≡ n
+  HandlesPlainly-one m n a b = CountsPhases-one (phases_of c) m n a b
 
-pub HandlesPlainly-exists : (p : Parameters) (s : RunState) → IsDomain p.grid → RunEnds p s None → (n : ℕ) × HandlesPlainly p n
-HandlesPlainly-exists p s domain (after_all runs none) = CountsPhases-exists p p.rounds s domain runs
-HandlesPlainly-exists p s domain (at_limit phases f below runs passes is) = absurd (none-some f is)
+  pub HandlesPlainly-exists : (s : RunState) → Tiles p c.start.state.leaves → RunEnds c s None → (n : ℕ) × HandlesPlainly c n
+  HandlesPlainly-exists s start (after_all runs none) = CountsPhases-exists (phases_of c) s start runs
+  HandlesPlainly-exists s start (at_limit phases f below runs passes is) = absurd (none-some f is)

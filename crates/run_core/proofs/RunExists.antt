@@ -1,5 +1,5 @@
--- There is a run of all parameters whose array is within its limits.
-use Rattle.std.proofs.Common.{◌≡◌, ℕ, zero, suc, ◌<◌, Bool, true, false, List, [], ◌∷◌, ◌++◌, Option, Some, None, length, refl, sym, subst, arith, ◌⊎◌, inl, inr}
+-- There is a run of each course whose start is a state on a mesh of its domain.
+use Rattle.std.proofs.Common.{◌≡◌, ℕ, zero, suc, ◌+◌, ◌<◌, Bool, true, false, List, [], ◌∷◌, Option, Some, None, length, refl, sym, subst, arith, ◌⊎◌, inl, inr}
 use Rattle.std.specs.Prelude.{slice_get}
 use Rattle.std.proofs.lemmas.Bool.{cases_lt, cases_eq}
 use Rattle.std.proofs.lemmas.Option.{same_Some}
@@ -8,7 +8,6 @@ use Rattle.block_index.specs.declared.wish.Wish.{Wish}
 use Rattle.block_index.specs.declared.wish.Wish.TheVariants.{Coarsen, Stay, Refine}
 use Rattle.leaf_set.specs.Meshes.{IsMesh, IsBalanced}
 use Rattle.leaf_set.specs.NextMesh.{next_mesh}
-use Rattle.leaf_set.proofs.RootMeshes.{root_mesh-IsMesh, root_mesh-IsBalanced}
 use Rattle.leaf_set.proofs.LeastLevels.{least_exists}
 use Rattle.leaf_set.proofs.NextMeshes.{next_mesh-IsMesh}
 use Rattle.leaf_set.proofs.Balance.{next_mesh-IsBalanced}
@@ -17,7 +16,9 @@ use Rattle.block_fields.specs.States.{State}
 use Rattle.params_check.specs.Parameters.{Parameters}
 use Rattle.run_core.specs.declared.fault.RunFault.{RunFault}
 use Rattle.run_core.specs.declared.fault.RunFault.TheVariants.{LevelLimit, BlockLimit}
-use Rattle.run_core.specs.Runs.{KeepsLevelLimit, Decides, Adapts, PassesLimit, PhasePasses, phase_wishes, of_level, of_blocks, RunState, RunSteps, Runs, RunEnds, after_all, at_limit, run_start, run_state}
+use Rattle.run_core.specs.Courses.{Course, RunState, phases_of}
+use Rattle.run_core.specs.Runs.{KeepsLevelLimit, Decides, Adapts, PassesLimit, PhasePasses, phase_wishes, of_level, of_blocks, RunSteps, Runs, RunEnds, after_all, after_step, at_limit}
+use Rattle.run_core.proofs.PhaseMeshes.{Tiles, after_step-leaves}
 
 true_cases : (b : Bool) → (b ≡ true) ⊎ (b ≡ true → ⊥)
 true_cases true = inl refl
@@ -126,24 +127,25 @@ module _ (p : Parameters) (g : IsDomain p.grid) where
             ]
       ]
 
+module _ (c : Course) (start : Tiles c.parameters c.start.state.leaves) where
   record Ran (phases : ℕ) : Type 0 where
     run : RunState
-    runs : Runs p phases run
-    mesh : IsMesh p.grid run.state.leaves
-    balanced : IsBalanced p.grid run.state.leaves
+    runs : Runs c phases run
+    mesh : IsMesh c.parameters.grid run.state.leaves
+    balanced : IsBalanced c.parameters.grid run.state.leaves
 
   record Stopped (bound : ℕ) : Type 0 where
     phases : ℕ
     run : RunState
     fault : RunFault
     below : phases < bound
-    runs : Runs p phases run
-    passes : PhasePasses p (suc phases) run.state fault
+    runs : Runs c phases run
+    passes : PhasePasses c.parameters (c.ended + suc phases) run.state fault
 
-  course : (phases : ℕ) → Ran phases ⊎ Stopped phases
-  course zero = inl (record { run = run_start p; runs = refl; mesh = root_mesh-IsMesh p.grid g; balanced = root_mesh-IsBalanced p.grid })
-  course (suc phases) =
-      elim (course phases) [
+  reached : (phases : ℕ) → Ran phases ⊎ Stopped phases
+  reached zero = inl (record { run = c.start; runs = refl; mesh = start.mesh; balanced = start.balanced })
+  reached (suc phases) =
+      elim (reached phases) [
         | inr stopped ↦
             inr (record {
               phases = stopped.phases;
@@ -154,21 +156,29 @@ module _ (p : Parameters) (g : IsDomain p.grid) where
               passes = stopped.passes;
             })
         | inl before ↦
+            let p : Parameters = c.parameters in
+            let phase : ℕ = c.ended + suc phases in
             let s : RunState = before.run in
-            elim (one_more (suc phases) s.state.leaves (phase_wishes p (suc phases) s.state) before.mesh before.balanced) [
+            elim (one_more p start.domain phase s.state.leaves (phase_wishes p phase s.state) before.mesh before.balanced) [
               | inr h ↦ inr (record { phases = phases; run = s; fault = h.0; below = omega arith; runs = before.runs; passes = h.1 })
               | inl more ↦
                   let after : State = adapted s.state more.levels in
-                  let t : RunState = run_state after (s.leaves ++ length after.leaves ∷ []) in
-                  let adapts : Adapts p (suc phases) s.state after = record { levels = more.levels; decides = more.decides; next = refl } in
-                  let step : RunSteps p (suc phases) s t = record { adapts = adapts; leaves = refl } in
-                  inl (record { run = t; runs = (s, before.runs, step); mesh = more.mesh; balanced = more.balanced })
+                  let t : RunState = after_step p phase s after in
+                  let adapts : Adapts p phase s.state after = record { levels = more.levels; decides = more.decides; next = refl } in
+                  let step : RunSteps p phase s t = record { between = after; adapts = adapts; goes_on = refl } in
+                  let same = sym (after_step-leaves p phase s after) in
+                  inl (record {
+                    run = t;
+                    runs = (s, before.runs, step);
+                    mesh = subst (λ (mesh : List Cube). IsMesh p.grid mesh) same more.mesh;
+                    balanced = subst (λ (mesh : List Cube). IsBalanced p.grid mesh) same more.balanced;
+                  })
             ]
       ]
 
-  pub run_exists : (s : RunState) × (limit : Option RunFault) × RunEnds p s limit
+  pub run_exists : (s : RunState) × (limit : Option RunFault) × RunEnds c s limit
   run_exists =
-      elim (course p.rounds) [
+      elim (reached (phases_of c)) [
         | inl h ↦ (h.run, None, after_all h.runs refl)
         | inr h ↦ (h.run, Some h.fault, at_limit h.phases h.fault h.below h.runs h.passes refl)
       ]

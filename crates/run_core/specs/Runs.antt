@@ -1,6 +1,6 @@
--- The defined run of parameters: adapt phases one after another, from the root blocks with their amounts on, to the
--- last or to a limit.
-use Rattle.std.specs.Prelude.{◌≡◌, ℕ, zero, suc, ◌<◌, ◌≤◌, true, List, [], ◌∷◌, ◌++◌, length, Option, Some, None, slice_get}
+-- The defined run of a course: adapt phases one after another, the initial rounds first and then one with each cycle's
+-- advance, to the last or to a limit.
+use Rattle.std.specs.Prelude.{◌≡◌, ℕ, zero, suc, ◌+◌, ◌<◌, ◌≤◌, ◌==◌, cond, nat_lt, true, List, [], ◌∷◌, ◌++◌, length, Option, Some, None, slice_get}
 use Rattle.block_index.specs.Places.{Cube}
 use Rattle.block_index.specs.declared.wish.Wish.{Wish}
 use Rattle.block_index.specs.declared.wish.Wish.TheVariants.{Refine}
@@ -10,15 +10,20 @@ use Rattle.block_fields.specs.Blocks.{BlockState}
 use Rattle.block_fields.specs.BlockStates.{AreBlocksOf, state_of}
 use Rattle.block_fields.specs.Samples.{adapted}
 use Rattle.block_fields.specs.States.{State}
-use Rattle.initial_fill.specs.RootBlocks.{initial_state, root_depth}
+use Rattle.initial_fill.specs.RootBlocks.{root_depth}
+use Rattle.amount_ledger.specs.Ledgers.{later_ledger}
+use Rattle.grid_fluxes.specs.Fluxes.{advanced}
+use Rattle.grid_fluxes.specs.Upwind.{upwind}
+use Rattle.advect.specs.Flows.{flow_of}
 use Rattle.params_check.specs.Parameters.{Parameters}
 use Rattle.criteria.specs.Wishes.{wishes_in}
 use Rattle.run_core.specs.declared.fault.RunFault.{RunFault}
 use Rattle.run_core.specs.declared.fault.RunFault.TheVariants.{LevelLimit, BlockLimit}
+use Rattle.run_core.specs.Courses.{Course, RunState, Told, phase_ended, cycle_ended, cycle_after, outflow, phases_of, run_state}
 
--- how many phases a run has at most
+-- how many phases a run has at most: the initial rounds, and one with each cycle
 abbrev pub most_phases : ℕ
-most_phases = 12
+most_phases = 4108
 
 -- the wish of each leaf of a state in a phase, by the criteria of the parameters
 abbrev pub phase_wishes : Parameters → ℕ → State → List Wish
@@ -69,34 +74,44 @@ AreBlocksFor p leaves blocks = AreBlocksOf leaves p.block (length p.fields) root
 abbrev pub blocks_state : Parameters → List BlockState → State
 blocks_state p blocks = state_of p.grid p.block (length p.fields) blocks
 
--- Where a run stands: the state of its mesh and amounts, and the number of leaves after each phase so far.
-pub record RunState : Type 0 where
-  pub state : State
-  pub leaves : List ℕ
+-- what a state told by the phase of this number says of it
+abbrev pub told_phase : RunState → ℕ → State → List Told
+told_phase s phase between = s.told ++ phase_ended phase (length between.leaves) ∷ []
 
-abbrev pub run_state : State → List ℕ → RunState
-run_state state leaves = record { state = state; leaves = leaves }
+-- where the run stands after an initial round that led to this state; with the last one cycle 0 ends
+abbrev pub after_round : Parameters → ℕ → RunState → State → RunState
+after_round p phase s between =
+    run_state between s.ledger (told_phase s phase between ++ cond (phase == p.rounds) (cycle_ended 0 between s.ledger ∷ []) [])
 
--- the run before its first phase
-abbrev pub run_start : Parameters → RunState
-run_start p = record { state = initial_state p; leaves = [] }
+-- where it stands after the cycle whose adapt phase led to this state
+abbrev pub after_cycle : Parameters → ℕ → RunState → State → RunState
+after_cycle p phase s between =
+    let next = advanced between (upwind between (flow_of p)) in
+    let ledger = later_ledger s.ledger (outflow p between) in
+    run_state next ledger (told_phase s phase between ++ cycle_ended (cycle_after p phase) next ledger ∷ [])
 
--- one phase more, which has this number
+abbrev pub after_step : Parameters → ℕ → RunState → State → RunState
+after_step p phase s between = cond (nat_lt p.rounds phase) (after_cycle p phase s between) (after_round p phase s between)
+
+-- One phase more, which has this number: an adapt phase, and where the initial rounds are behind, an advance. What is
+-- told is the phase with the leaves that it led to, and the cycle, where one ended.
 pub record RunSteps (p : Parameters) (phase : ℕ) (s t : RunState) : Type 0 where
-  pub adapts : Adapts p phase s.state t.state
-  pub leaves : t.leaves ≡ s.leaves ++ length t.state.leaves ∷ []
+  pub between : State
+  pub adapts : Adapts p phase s.state between
+  pub goes_on : t ≡ after_step p phase s between
 
--- the first phases of the run, which are this many and are numbered from 1
-abbrev pub Runs : Parameters → ℕ → RunState → Type 0
-Runs p zero t = t ≡ run_start p
-Runs p (suc phases) t = (s : RunState) × Runs p phases s × RunSteps p (suc phases) s t
+-- the first phases of a run, which are this many
+abbrev pub Runs : Course → ℕ → RunState → Type 0
+Runs c zero t = t ≡ c.start
+Runs c (suc phases) t = (s : RunState) × Runs c phases s × RunSteps c.parameters (c.ended + suc phases) s t
 
 -- The run ends, in this state: after its last phase, or by a limit that the next phase passes.
-pub data RunEnds (p : Parameters) (s : RunState) (limit : Option RunFault) : Type 0 where
-  after_all : Runs p p.rounds s → limit ≡ None → RunEnds p s limit
-  at_limit : (phases : ℕ) (fault : RunFault) → phases < p.rounds → Runs p phases s → PhasePasses p (suc phases) s.state fault → limit ≡ Some fault →
-      RunEnds p s limit
+pub data RunEnds (c : Course) (s : RunState) (limit : Option RunFault) : Type 0 where
+  after_all : Runs c (phases_of c) s → limit ≡ None → RunEnds c s limit
+  at_limit : (phases : ℕ) (fault : RunFault) → phases < phases_of c → Runs c phases s →
+      PhasePasses c.parameters (c.ended + suc phases) s.state fault → limit ≡ Some fault → RunEnds c s limit
 
 -- no phase of the run passes a limit
-abbrev pub MeetsNoLimit : Parameters → Type 0
-MeetsNoLimit p = (phases : ℕ) (s : RunState) (fault : RunFault) → phases < p.rounds → Runs p phases s → PhasePasses p (suc phases) s.state fault → ⊥
+abbrev pub MeetsNoLimit : Course → Type 0
+MeetsNoLimit c = (phases : ℕ) (s : RunState) (fault : RunFault) → phases < phases_of c → Runs c phases s →
+    PhasePasses c.parameters (c.ended + suc phases) s.state fault → ⊥

@@ -1,11 +1,11 @@
 //! One adapt phase of a run: how it begins, and the state that it leads to.
-ghost use Rattle.std.specs.Prelude.{◌≡◌, ℕ, ◌+◌, ◌<◌, ◌⊎◌, ◌↔◌, true, IfOk, IfErr, IfSome, IfNone, length};
+ghost use Rattle.std.specs.Prelude.{◌≡◌, ℕ, ◌^◌, ◌<◌, ◌≤◌, ◌⊎◌, ◌↔◌, true, IfOk, IfErr, IfSome, IfNone, length};
 ghost use Rattle.block_index.specs.declared.wish.Wish.TheVariants.{Refine};
 ghost use Rattle.leaf_set.specs.LevelRules.{IsLeast};
+ghost use Rattle.block_fields.specs.States.{total};
 ghost use Rattle.adapt_core.specs.Problem.{AdaptBegins, mesh_of, problem_of, wishes_of};
 ghost use Rattle.run_core.specs.Lemmas.Decisions.{LeadsTo};
-ghost use Rattle.run_core.specs.Runs.{KeepsLevelLimit, PassesLimit, blocks_state, most_phases, phase_wishes};
-ghost use Rattle.run_core.specs.Works.{HoldState};
+ghost use Rattle.run_core.specs.Runs.{Adapts, AreBlocksFor, KeepsLevelLimit, PassesLimit, blocks_state, phase_wishes};
 
 use crate::fault::RunFault;
 use adapt_core::{Adapt, AdaptCell, levels};
@@ -119,28 +119,28 @@ fn next_set(
     Ok(next)
 }
 
-/// The state after the phase that came to rest, where so many had ended before it.
+/// The state after the adapt phase of this number, which came to rest over these blocks.
 pub(crate) fn next_state(
     alloc: Global,
     params: &Params,
-    ended: u32,
+    phase: u32,
     set: &LeafSet,
     blocks: Vec<Block>,
     quiet: &Quiet<Adapt>,
 ) -> Result<NextState, RunFault>
-    requires few { ended < most_phases }
     requires grid { set.now.grid ≡ params.now.grid }
-    requires holds { HoldState params.now ended set.now.places blocks.items }
+    requires blocks { AreBlocksFor params.now set.now.places blocks.items }
+    requires few { (f : ℕ) → f < length params.now.fields → total (blocks_state params.now blocks.items) f ≤ 2 ^ 40 }
     requires level_limit { KeepsLevelLimit params.now set.now.places (wishes_of quiet.now.problem) }
     requires same_grid { quiet.now.problem.grid ≡ set.now.grid }
     requires places { mesh_of quiet.now.problem ≡ set.now.places }
-    requires wishes { wishes_of quiet.now.problem ≡ phase_wishes params.now (ended + 1) (blocks_state params.now blocks.items) }
+    requires wishes { wishes_of quiet.now.problem ≡ phase_wishes params.now phase (blocks_state params.now blocks.items) }
     ensures grid { IfOk result (λ next. next.set.grid ≡ params.now.grid) }
-    ensures holds { IfOk result (λ next. HoldState params.now (ended + 1) next.set.places next.blocks.items) }
-    ensures ended { IfErr result (λ fault. (fault ≡ RunFault.Memory) ⊎ PassesLimit params.now (ended + 1) set.now.places (wishes_of quiet.now.problem) fault) }
+    ensures blocks { IfOk result (λ next. AreBlocksFor params.now next.set.places next.blocks.items) }
+    ensures adapts { IfOk result (λ next. Adapts params.now phase (blocks_state params.now blocks.items) (blocks_state params.now next.blocks.items)) }
+    ensures ended { IfErr result (λ fault. (fault ≡ RunFault.Memory) ⊎ PassesLimit params.now phase set.now.places (wishes_of quiet.now.problem) fault) }
 {
-    let next = next_set(alloc, params, ended + 1, set, quiet)?;
-    let _limits = params.rounds();
+    let next = next_set(alloc, params, phase, set, quiet)?;
     let blocks = apply(alloc, blocks, set, &next)?;
     Ok(NextState { set: next, blocks })
 }

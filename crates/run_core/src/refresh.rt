@@ -1,8 +1,10 @@
-//! The refresh with which a phase of a run begins: its cells, and the blocks at its end.
-ghost use Rattle.std.specs.Prelude.{◌≡◌, IfOk};
-ghost use Rattle.refresh_phase.specs.Cells.{problem_of};
+//! A refresh of a run's ghosts: its cells, and the blocks at its end.
+ghost use Rattle.std.specs.Prelude.{◌≡◌, ℕ, ◌^◌, ◌<◌, ◌≤◌, IfOk, length};
+ghost use Rattle.block_fields.specs.States.{total};
+ghost use Rattle.refresh_phase.specs.Cells.{problem_of, state_in};
 ghost use Rattle.refresh_phase.specs.Problem.{RefreshBegins};
-ghost use Rattle.run_core.specs.Works.{HoldAround, HoldState, IsRefreshAt};
+ghost use Rattle.run_core.specs.Runs.{AreBlocksFor, blocks_state};
+ghost use Rattle.run_core.specs.Works.{HoldAround, setting_of};
 
 use block_fields::Block;
 use cello_num::Memory;
@@ -12,20 +14,20 @@ use phase_core::Quiet;
 use refresh_phase::{Refresh, RefreshCell, settled_blocks};
 use std::alloc::Global;
 
-/// The refresh phase over the blocks of the state after so many phases, and its cells.
+/// The refresh phase over these blocks, and its cells.
 pub(crate) fn begin_refresh(
     alloc: Global,
     params: &Params,
-    ended: u32,
     set: &LeafSet,
     blocks: Vec<Block>,
 ) -> Result<(Refresh, Vec<RefreshCell>), Memory>
     requires grid { set.now.grid ≡ params.now.grid }
-    requires holds { HoldState params.now ended set.now.places blocks.items }
-    ensures problem { IfOk result (λ r. IsRefreshAt params.now ended set.now.places (problem_of r.0 r.1.items)) }
+    requires blocks { AreBlocksFor params.now set.now.places blocks.items }
+    requires few { (f : ℕ) → f < length params.now.fields → total (blocks_state params.now blocks.items) f ≤ 2 ^ 40 }
+    ensures setting { IfOk result (λ r. (problem_of r.0 r.1.items).setting ≡ setting_of params.now) }
+    ensures state { IfOk result (λ r. state_in (problem_of r.0 r.1.items) ≡ blocks_state params.now blocks.items) }
     ensures begins { IfOk result (λ r. RefreshBegins (problem_of r.0 r.1.items) r.1.items) }
 {
-    let _limits = params.rounds();
     let begun = Refresh::begin(alloc, set, blocks)?;
     Ok(begun)
 }
@@ -34,12 +36,11 @@ pub(crate) fn begin_refresh(
 pub(crate) fn refreshed(
     alloc: Global,
     params: &Params,
-    ended: u32,
-    set: &LeafSet,
     quiet: Quiet<Refresh>,
 ) -> Result<Vec<Block>, Memory>
-    requires problem { IsRefreshAt params.now ended set.now.places quiet.problem }
-    ensures holds { IfOk result (λ blocks. HoldState params.now ended set.now.places blocks.items) }
+    requires setting { quiet.problem.setting ≡ setting_of params.now }
+    ensures blocks { IfOk result (λ blocks. AreBlocksFor params.now (state_in quiet.problem).leaves blocks.items) }
+    ensures state { IfOk result (λ blocks. state_in quiet.problem ≡ blocks_state params.now blocks.items) }
     ensures around { IfOk result (λ blocks. HoldAround params.now blocks.items) }
 {
     let blocks = settled_blocks(alloc, quiet)?;

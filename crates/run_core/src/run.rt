@@ -1,73 +1,159 @@
 //! A run of parameters, work by work.
-ghost use Rattle.std.specs.Prelude.{◌≡◌, ℕ, ◌+◌, ◌⊎◌, ◌^◌, ◌<◌, ◌≤◌, IfOk, IfErr, length};
-ghost use Rattle.block_fields.specs.States.{total};
-ghost use Rattle.run_core.specs.Runs.{blocks_state, most_phases};
-ghost use Rattle.run_core.specs.Steps.{after_phase, step_after};
-ghost use Rattle.run_core.specs.Works.{AreNextWishes, HoldState, IsAdapt, IsNextProblem, IsNextRefresh, IsRefresh, IsWishes, IsWork, PassesNext, StandsAt, stage_out, works_left};
+ghost use Rattle.std.specs.Prelude.{◌≡◌, ℕ, ◌+◌, ◌<◌, ◌≤◌, ◌⊎◌, [], IfOk, IfErr, List, Some, length, slice_index};
+ghost use Rattle.block_fields.specs.States.{IsState, total};
+ghost use Rattle.initial_fill.specs.RootBlocks.{initial_state};
+ghost use Rattle.amount_ledger.specs.Ledgers.{restored_ledger};
+ghost use Rattle.params_check.specs.Bounds.{most_cycles};
+ghost use Rattle.run_core.specs.Courses.{Told, going_on, phases_of, run_state, totals_of, whole};
+ghost use Rattle.run_core.specs.Runs.{AreBlocksFor, blocks_state};
+ghost use Rattle.run_core.specs.Steps.{after_cycle_told, first_step};
+ghost use Rattle.run_core.specs.Works.{IsCounted, IsTold, IsWork, LimitEnds, StandsAt, stage_out, works_left};
+ghost use Rattle.run_core.specs.Lemmas.Bounds.{most_works};
 
 use crate::fault::RunFault;
-use crate::phase::{NextState, begin_adapt, next_state};
-use crate::refresh::{begin_refresh, refreshed};
-use crate::step::{Stage, Step, step_after};
-use crate::work::{Emission, Work};
-use adapt_core::{Adapt, AdaptCell};
+use crate::step::{Stage, Step, after_cycle_told, after_round};
+use crate::totals::initial_totals;
+use crate::work::Work;
+use advect::FaceFluxes;
+use amount_ledger::Ledger;
 use block_fields::Block;
 use block_index::Wish;
 use cello_num::Memory;
 use initial_fill::fill;
 use leaf_set::LeafSet;
 use params_check::Params;
-use phase_core::Quiet;
-use refresh_phase::{Refresh, RefreshCell};
 use std::alloc::Global;
-use std::marker::Model;
-use std::mem;
+use std::marker::{Model, PhantomData};
+
+/// Where a run starts: at its beginning, or in a state that contracts name.
+pub trait Start {
+    ghost use Rattle.std.specs.Prelude.{Option};
+    ghost use Rattle.run_core.specs.Courses.{RunState};
+
+    ghost start: { Option RunState };
+}
+
+/// A run from its beginning on.
+#[derive(Debug, Clone, Copy, PartialEq, Eq)]
+pub struct Whole;
+
+impl Start for Whole {
+    ghost use Rattle.std.specs.Prelude.{None};
+
+    ghost start = { None };
+}
 
 /// A run of parameters. It gives out one work after another, and goes on with what comes back. Contracts see where it
 /// stands; its state is always that of the defined run after as many phases.
 #[derive(Drop)]
-pub struct Run {
-    params: Params,
-    set: LeafSet,
-    blocks: Vec<Block>,
-    wishes: Vec<Wish>,
-    phase: u32,
-    step: Step,
-    stage: Stage,
+pub struct Run<S: Start = Whole> {
+    pub(crate) params: Params,
+    pub(crate) ended: u32,
+    pub(crate) last: u32,
+    pub(crate) set: LeafSet,
+    pub(crate) ledger: Ledger,
+    pub(crate) blocks: Vec<Block>,
+    pub(crate) wishes: Vec<Wish>,
+    pub(crate) faces: Vec<FaceFluxes>,
+    pub(crate) phase: u32,
+    pub(crate) step: Step,
+    pub(crate) stage: Stage,
+    pub(crate) of: PhantomData<S>,
 }
 
-impl Model for Run {
+impl<S: Start> Model for Run<S> {
+    ghost use Rattle.run_core.specs.Courses.{course_of};
     ghost use Rattle.run_core.specs.Works.{Standing};
     ghost use Rattle.run_core.specs.Lemmas.Keeping.{KeepsRun};
 
     ghost Value = { Standing };
 
-    ghost view = { λ r. record { parameters = r.params; set = r.set; phase = r.phase; step = r.step; stage = r.stage } };
+    ghost view = { λ r. record { course = course_of r.params r.ended r.last S.start; set = r.set; ledger = r.ledger; phase = r.phase; step = r.step; stage = r.stage } };
 
-    ghost invariant = { λ r. KeepsRun r.params r.set r.phase r.step r.stage r.blocks.items r.wishes.items };
+    ghost invariant = { λ r. KeepsRun (course_of r.params r.ended r.last S.start) r.set r.ledger r.phase r.step r.stage (record { blocks = r.blocks.items; wishes = r.wishes.items; faces = r.faces.items }) };
 }
 
-impl Run {
-    /// The run before its first phase, with the root blocks.
+impl Run<Whole> {
+    /// The whole run of parameters before its first phase, with the root blocks.
     pub fn begin(alloc: Global, params: Params) -> Result<Run, Memory>
-        ensures parameters { IfOk result (λ run. run.parameters ≡ params) }
+        ensures course { IfOk result (λ run. run.course ≡ whole params) }
         ensures phase { IfOk result (λ run. run.phase ≡ 0) }
-        ensures stands { IfOk result (λ run. StandsAt params 0 run.set.places) }
-        ensures step { IfOk result (λ run. run.step ≡ after_phase params 0) }
+        ensures stands { IfOk result (λ run. StandsAt run.step run.course run.phase run.set.places) }
+        ensures step { IfOk result (λ run. run.step ≡ first_step params.rounds) }
         ensures next { IfOk result (λ run. run.stage ≡ Stage.Next) }
+        ensures told { IfOk result (λ run. IsTold run []) }
+        ensures counted { IfOk result (λ run. IsCounted run 0) }
+        ensures few { IfOk result (λ run. works_left run ≤ most_works) }
     {
+        let last = params.cycles();
         let set = LeafSet::roots(alloc, *params.domain())?;
         let blocks = fill(alloc, &params)?;
-        let step = step_after(&params, 0, Step::Adapt);
+        let ledger = Ledger::new(initial_totals(&params));
+        let step = after_round(params.rounds(), 0);
         Ok(Run {
             params,
+            ended: 0,
+            last,
             set,
+            ledger,
             blocks,
             wishes: Vec::new(alloc),
+            faces: Vec::new(alloc),
             phase: 0,
             step,
             stage: Stage::Next,
+            of: PhantomData,
         })
+    }
+}
+
+impl<S: Start> Run<S> {
+    /// The run that goes on after a cycle up to cycle `until`, from blocks that hold its state, which is where the run
+    /// starts, and with the ledger that is restored of it. It takes no memory.
+    pub fn resume(
+        alloc: Global,
+        params: Params,
+        cycle: u32,
+        set: LeafSet,
+        blocks: Vec<Block>,
+        ledger: Ledger,
+        until: u32,
+    ) -> Run<S>
+        requires grid { set.grid ≡ params.grid }
+        requires blocks { AreBlocksFor params set.places blocks.items }
+        requires state { IsState (blocks_state params blocks.items) }
+        requires restored { ledger ≡ restored_ledger (totals_of (blocks_state params blocks.items)) ledger.gone }
+        requires together { (f : ℕ) → f < length params.fields →
+            slice_index ledger.total f + slice_index ledger.gone f ≡ total (initial_state params) f }
+        requires cycle { cycle ≤ most_cycles }
+        requires until { until ≤ most_cycles }
+        requires start { S.start ≡ Some (run_state (blocks_state params blocks.items) ledger []) }
+        ensures course { result.course ≡ going_on params cycle (blocks_state params blocks.items) ledger.gone until }
+        ensures set { result.set ≡ set }
+        ensures ledger { result.ledger ≡ ledger }
+        ensures phase { result.phase ≡ 0 }
+        ensures step { result.step ≡ after_cycle_told 0 (phases_of result.course) }
+        ensures next { result.stage ≡ Stage.Next }
+        ensures told { IsTold result [] }
+        ensures counted { IsCounted result 0 }
+        ensures few { works_left result ≤ most_works }
+    {
+        let ended = params.rounds() + cycle;
+        let all = (params.rounds() + until).saturating_sub(ended);
+        Run {
+            params,
+            ended,
+            last: until,
+            set,
+            ledger,
+            blocks,
+            wishes: Vec::new(alloc),
+            faces: Vec::new(alloc),
+            phase: 0,
+            step: after_cycle_told(0, all),
+            stage: Stage::Next,
+            of: PhantomData,
+        }
     }
 
     /// The next work. The run waits until it comes back; at the end there is none to be done.
@@ -75,187 +161,28 @@ impl Run {
         requires next { self.old.stage ≡ Stage.Next }
         ensures work { IfOk result (λ work. IsWork self.new work) }
         ensures out { IfOk result (λ _. self.new ≡ record self.old { stage = stage_out self.old.step }) }
-        ensures limit { IfErr result (λ fault. (fault ≡ RunFault.Memory) ⊎ PassesNext self.old fault) }
+        ensures told { (told : List Told) → IsTold self.old told → IfOk result (λ _. IsTold self.new told) }
+        ensures counted { (handled : ℕ) → IsCounted self.old handled → IfOk result (λ _. IsCounted self.new handled) }
+        ensures limit { IfErr result (λ fault. (fault ≡ RunFault.Memory) ⊎ LimitEnds self.old fault) }
         ensures failed { IfErr result (λ _. self.new ≡ record self.old { stage = Stage.Failed }) }
     {
         match self.step {
-            Step::Refresh => {
+            Step::Refresh | Step::RefreshAgain => {
                 let (phase, cells) = self.give_refresh(alloc)?;
                 Ok(Work::Refresh(phase, cells))
             }
-            Step::Wishes => Ok(Work::Wishes(self.give_blocks(alloc))),
+            Step::Wishes => Ok(Work::Wishes(self.give_wishes(alloc))),
             Step::Adapt => {
                 let (phase, cells) = self.give_adapt(alloc)?;
                 Ok(Work::Adapt(phase, cells))
             }
-            Step::Emit => {
-                self.stage = Stage::Out;
-                Ok(Work::Emit(Emission { cycle: 0 }))
+            Step::Advance => Ok(Work::Advance(self.give_advance(alloc))),
+            Step::Flux => {
+                let (phase, cells) = self.give_flux(alloc)?;
+                Ok(Work::Flux(phase, cells))
             }
+            Step::Emit => Ok(Work::Emit(self.give_emission())),
             Step::Ended => Ok(Work::Ended),
         }
-    }
-
-    /// Gives the blocks out as the cells of a refresh phase.
-    fn give_refresh(&mut self, alloc: Global) -> Result<(Refresh, Vec<RefreshCell>), Memory>
-        requires next { self.old.stage ≡ Stage.Next }
-        requires step { self.old.step ≡ Step.Refresh }
-        ensures begun { IfOk result (λ r. IsRefresh self.new r.0 r.1.items) }
-        ensures out { IfOk result (λ _. self.new ≡ record self.old { stage = Stage.Out }) }
-        ensures failed { IfErr result (λ _. self.new ≡ record self.old { stage = Stage.Failed }) }
-    {
-        self.stage = Stage::Failed;
-        let blocks = mem::replace(&mut self.blocks, Vec::new(alloc));
-        let begun = begin_refresh(alloc, &self.params, self.phase, &self.set, blocks)?;
-        self.stage = Stage::Out;
-        Ok(begun)
-    }
-
-    /// Takes the refresh phase at rest, whose blocks hold samples around them.
-    pub fn done_refresh(&mut self, alloc: Global, quiet: Quiet<Refresh>) -> Result<(), Memory>
-        requires out { self.old.stage ≡ Stage.Out }
-        requires step { self.old.step ≡ Step.Refresh }
-        requires problem { IsNextRefresh self.old quiet.problem }
-        ensures next { IfOk result (λ _. self.new ≡ record self.old {
-          step = step_after self.old.parameters self.old.phase Step.Refresh;
-          stage = Stage.Next;
-        }) }
-        ensures fewer { IfOk result (λ _. works_left self.new < works_left self.old) }
-        ensures failed { IfErr result (λ _. self.new ≡ record self.old { stage = Stage.Failed }) }
-    {
-        self.stage = Stage::Failed;
-        self.blocks = refreshed(alloc, &self.params, self.phase, &self.set, quiet)?;
-        self.step = step_after(&self.params, self.phase, Step::Refresh);
-        self.stage = Stage::Next;
-        Ok(())
-    }
-
-    /// Gives the blocks out.
-    fn give_blocks(&mut self, alloc: Global) -> Vec<Block>
-        requires next { self.old.stage ≡ Stage.Next }
-        requires step { self.old.step ≡ Step.Wishes }
-        ensures blocks { IsWishes self.new result.items }
-        ensures out { self.new ≡ record self.old { stage = Stage.Out } }
-    {
-        self.stage = Stage::Out;
-        mem::replace(&mut self.blocks, Vec::new(alloc))
-    }
-
-    /// Gives the next phase out, unless a leaf wishes past the level limit.
-    fn give_adapt(&mut self, alloc: Global) -> Result<(Adapt, Vec<AdaptCell>), RunFault>
-        requires next { self.old.stage ≡ Stage.Next }
-        requires step { self.old.step ≡ Step.Adapt }
-        ensures begun { IfOk result (λ r. IsAdapt self.new r.0 r.1.items) }
-        ensures out { IfOk result (λ _. self.new ≡ record self.old { stage = Stage.Out }) }
-        ensures limit { IfErr result (λ fault. (fault ≡ RunFault.Memory) ⊎ PassesNext self.old fault) }
-        ensures failed { IfErr result (λ _. self.new ≡ record self.old { stage = Stage.Failed }) }
-    {
-        match begin_adapt(alloc, &self.params, self.phase + 1, &self.set, &self.wishes) {
-            Ok(begun) => {
-                self.stage = Stage::Out;
-                Ok(begun)
-            }
-            Err(fault) => {
-                self.stage = Stage::Failed;
-                Err(fault)
-            }
-        }
-    }
-
-    /// Takes the blocks back, with the wish of each leaf.
-    pub fn done_wishes(&mut self, blocks: Vec<Block>, wishes: Vec<Wish>)
-        requires out { self.old.stage ≡ Stage.Out }
-        requires step { self.old.step ≡ Step.Wishes }
-        requires blocks { HoldState self.old.parameters self.old.phase self.old.set.places blocks.items }
-        requires wishes { AreNextWishes self.old wishes.items }
-        ensures next { self.new ≡ record self.old { step = step_after self.old.parameters self.old.phase Step.Wishes; stage = Stage.Next } }
-        ensures fewer { works_left self.new < works_left self.old }
-    {
-        self.blocks = blocks;
-        self.wishes = wishes;
-        self.step = step_after(&self.params, self.phase, Step::Wishes);
-        self.stage = Stage::Next;
-    }
-
-    /// Takes the phase at rest, and goes over to the mesh that it decides on, unless that has too many leaves.
-    pub fn done_adapt(&mut self, alloc: Global, quiet: Quiet<Adapt>) -> Result<(), RunFault>
-        requires out { self.old.stage ≡ Stage.Out }
-        requires step { self.old.step ≡ Step.Adapt }
-        requires problem { IsNextProblem self.old quiet.problem }
-        ensures next { IfOk result (λ _. self.new ≡ record self.old {
-          set = self.new.set;
-          phase = self.old.phase + 1;
-          step = step_after self.old.parameters (self.old.phase + 1) Step.Adapt;
-          stage = Stage.Next;
-        }) }
-        ensures fewer { IfOk result (λ _. works_left self.new < works_left self.old) }
-        ensures limit { IfErr result (λ fault. (fault ≡ RunFault.Memory) ⊎ PassesNext self.old fault) }
-        ensures failed { IfErr result (λ _. self.new ≡ record self.old { stage = Stage.Failed }) }
-    {
-        self.stage = Stage::Failed;
-        let blocks = mem::replace(&mut self.blocks, Vec::new(alloc));
-        match next_state(alloc, &self.params, self.phase, &self.set, blocks, &quiet) {
-            Ok(NextState { set, blocks }) => {
-                self.set = set;
-                self.blocks = blocks;
-                self.phase += 1;
-                self.step = step_after(&self.params, self.phase, Step::Adapt);
-                self.stage = Stage::Next;
-                Ok(())
-            }
-            Err(fault) => Err(fault),
-        }
-    }
-
-    /// The state of the cycle was told.
-    pub fn done_emit(&mut self)
-        requires out { self.old.stage ≡ Stage.Out }
-        requires step { self.old.step ≡ Step.Emit }
-        ensures next { self.new ≡ record self.old { step = step_after self.old.parameters self.old.phase Step.Emit; stage = Stage.Next } }
-        ensures fewer { works_left self.new < works_left self.old }
-    {
-        self.step = step_after(&self.params, self.phase, Step::Emit);
-        self.stage = Stage::Next;
-    }
-
-    /// The parameters.
-    pub fn params(&self) -> &Params
-        ensures params { result.now ≡ self.now.parameters }
-    {
-        &self.params
-    }
-
-    /// The leaves after the last phase that ended.
-    pub fn set(&self) -> &LeafSet
-        ensures set { result.now ≡ self.now.set }
-        ensures grid { self.now.set.grid ≡ self.now.parameters.grid }
-        ensures stands { StandsAt self.now.parameters self.now.phase self.now.set.places }
-    {
-        &self.set
-    }
-
-    /// How many adapt phases have ended.
-    pub fn phase(&self) -> u32
-        ensures phase { result ≡ self.now.phase }
-        ensures few { self.now.phase ≤ most_phases }
-    {
-        self.phase
-    }
-
-    /// The last cycle that ended: 0 before the first.
-    pub fn cycle(&self) -> u32
-        ensures cycle { result ≡ 0 }
-    {
-        0
-    }
-
-    /// The blocks of the state, while an emission is out.
-    pub fn blocks(&self) -> &[Block]
-        requires out { self.now.stage ≡ Stage.Out }
-        requires step { self.now.step ≡ Step.Emit }
-        ensures holds { HoldState self.now.parameters self.now.phase self.now.set.places result.now }
-        ensures few { (f : ℕ) → f < length self.now.parameters.fields → total (blocks_state self.now.parameters result.now) f ≤ 2 ^ 40 }
-    {
-        self.blocks.as_slice()
     }
 }

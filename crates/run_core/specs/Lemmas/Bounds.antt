@@ -4,3 +4,7 @@ use Rattle.std.specs.Prelude.{ℕ, ◌^◌}
 -- more messages than an adapt phase handles
 abbrev pub many_messages : ℕ
 many_messages = 2 ^ 40
+
+-- more works than a run has
+abbrev pub most_works : ℕ
+most_works = 40000

@@ -1,14 +1,23 @@
--- The totals of the state.
-use Rattle.std.proofs.Common.{ap, ◌∙◌}
-use Rattle.run_core.specs.declared.step.Step.TheVariants.{Emit}
-use Rattle.run_core.specs.Works.{Standing}
-use Rattle.run_core.proofs.Keeping.{few-shown, kept-out}
+-- The state that the blocks show, and its totals.
+use Rattle.std.proofs.Common.{rules}
+use Rattle.run_core.specs.Courses.{course_of}
+use Rattle.run_core.proofs.Shown.{shown-most, shown-state, shown-totals}
 use Rattle.run_core.proofs.run.Run.blocks.Goals as goal
 
-pub returns-clause-few : goal.returns-clause-few
-returns-clause-few c =
+pub returns-clause-state : goal.returns-clause-state
+returns-clause-state g c =
     let run = c.self.inside in
-    let kept = kept-out run.params run.phase run.set.places run.blocks.items run.wishes.items run.stage run.step Emit
-    (ap (λ (s : Standing). s.stage) c.self.view_is ∙ c.requires.out) (ap (λ (s : Standing). s.step) c.self.view_is ∙ c.requires.step) c.self.invariant.keeps in
-    few-shown run.params c.args.self.now.parameters run.phase run.set.places run.blocks.items c.as_slice.result.now
-    (ap (λ (s : Standing). s.parameters) c.self.view_is) c.as_slice.ensures.value c.self.invariant.limits kept.holds
+    shown-state (course_of run.params run.ended run.last g.S.Start.start) c.self.invariant.limits run.set run.ledger run.phase run.step run.stage c.args.self.now c.self.view_is c.requires.step
+    c.self.invariant.has_ledger c.as_slice.result.now (search rules)
+
+pub returns-clause-totals : goal.returns-clause-totals
+returns-clause-totals g c =
+    let run = c.self.inside in
+    shown-totals (course_of run.params run.ended run.last g.S.Start.start) c.self.invariant.limits run.set run.ledger run.phase run.step run.stage c.args.self.now c.self.view_is c.requires.step
+    c.self.invariant.has_ledger c.as_slice.result.now (search rules)
+
+pub returns-clause-few : goal.returns-clause-few
+returns-clause-few g c =
+    let run = c.self.inside in
+    shown-most (course_of run.params run.ended run.last g.S.Start.start) c.self.invariant.limits run.set run.ledger run.phase run.step run.stage c.args.self.now c.self.view_is c.requires.step
+    c.self.invariant.has_ledger c.as_slice.result.now (search rules)
