@@ -1,7 +1,7 @@
-//! The program: the commands on standard input and standard output.
+//! The program: the commands on standard input, standard output and the files of the current folder.
 #![tactic(auto)]
 
-use cello_io::{ErrSink, IdleShelf, StdSink, StdSource};
+use cello_io::{ErrSink, FolderShelf, StdSink, StdSource};
 use cello_num::Memory;
 use cello_top::{Fault, solo, write_fault};
 use std::env;
@@ -36,11 +36,11 @@ fn tell(rt: &HostRuntime, fault: Option<Fault>) {
     }
 }
 
-/// Runs the command of these words on the standard streams, and answers its status.
+/// Runs the command of these words on the standard streams and the current folder, and answers its status.
 fn run(rt: &HostRuntime, words: &[String]) -> u8 {
     let mut source = StdSource::new(rt.stdin());
     let mut sink = StdSink::new(rt.stdout());
-    let mut shelf = IdleShelf::new();
+    let mut shelf = FolderShelf::new(rt, ".");
     let outcome = solo(rt.alloc(), words, &mut source, &mut sink, &mut shelf);
     tell(rt, outcome.fault);
     outcome.status

@@ -1,5 +1,5 @@
 -- There is an answer to all words and bytes.
-use Rattle.std.proofs.Common.{◌≡◌, ℕ, List, [], ◌∷◌, Option, Some, None, Result, Ok, Err, length, get_or, refl, ap, ◌∙◌, arith, ◌⊎◌, inl, inr}
+use Rattle.std.proofs.Common.{◌≡◌, ℕ, List, [], ◌∷◌, Result, Ok, Err, length, get_or, refl, ap, ◌∙◌, arith, ◌⊎◌, inl, inr}
 use Rattle.std.specs.Prelude.{codes}
 use Rattle.std.proofs.lemmas.Bool.{cases_eq}
 use Rattle.params_syntax.specs.declared.tree.Group.{Group}
@@ -10,12 +10,15 @@ use Rattle.params_check.specs.declared.fault.ParamFault.{ParamFault}
 use Rattle.params_check.specs.Parameters.{Parameters}
 use Rattle.params_check.specs.Walks.{parameters_of}
 use Rattle.params_check.proofs.NoFaults.{accepted-limits}
+use Rattle.run_core.specs.Courses.{whole}
+use Rattle.run_core.proofs.PhaseMeshes.{course-Tiles}
 use Rattle.run_core.proofs.RunExists.{run_exists}
+use Rattle.run_core.proofs.RunTotals.{whole-IsCourse}
 use Rattle.cello_top.specs.declared.fault.Fault.{Fault}
 use Rattle.cello_top.specs.declared.fault.Fault.TheVariants.{Usage, Syntax, Param}
 use Rattle.cello_top.specs.Words.{IsSolo, IsCheck}
-use Rattle.cello_top.specs.Texts.{HasParameters, HasTextFault, of_syntax, of_parameters, unbuilt}
-use Rattle.cello_top.specs.Answers.{Answer, IsAnswer, other_words, other_text, checked, not_built, run, refusal, run_answer, text_answer}
+use Rattle.cello_top.specs.Texts.{HasParameters, HasTextFault, of_syntax, of_parameters}
+use Rattle.cello_top.specs.Answers.{Answer, IsAnswer, other_words, other_text, checked, run, refusal, run_answer, text_answer}
 
 rest_of : {A : Type 0} → List A → List A
 rest_of [] = []
@@ -61,19 +64,18 @@ text_cases bytes = go (each_reads bytes).0 (each_reads bytes).1
     go (Ok groups) spelled = of groups spelled (parameters_of groups) refl
     go (Err f) faulty = inr (Syntax f, of_syntax f faulty refl)
 
-solo_answer : (words : List (List ℕ)) (bytes : List ℕ) (p : Parameters) → IsSolo words → HasParameters bytes p → (o : Option Fault) → unbuilt p ≡ o → (a : Answer) × IsAnswer words bytes a
-solo_answer words bytes p solo has (Some fault) e = (refusal fault, not_built p fault solo has e refl)
-solo_answer words bytes p solo has None e =
+solo_answer : (words : List (List ℕ)) (bytes : List ℕ) (p : Parameters) → IsSolo words → HasParameters bytes p → (a : Answer) × IsAnswer words bytes a
+solo_answer words bytes p solo has =
     let limits = accepted-limits has.groups p has.spelled.limits has.accepted in
-    let h = run_exists p limits.domain in
-    (run_answer p h.0 h.1, run p h.0 h.1 solo has e h.2 refl)
+    let h = run_exists (whole p) (course-Tiles (whole p) (whole-IsCourse p limits)) in
+    (run_answer p h.0 h.1, run p h.0 h.1 solo has h.2 refl)
 
 pub answer_exists : (words : List (List ℕ)) (bytes : List ℕ) → (a : Answer) × IsAnswer words bytes a
 answer_exists words bytes =
     elim (solo_cases words) [
       | inl solo ↦
           elim (text_cases bytes) [
-            | inl h ↦ solo_answer words bytes h.0 solo h.1 (unbuilt h.0) refl
+            | inl h ↦ solo_answer words bytes h.0 solo h.1
             | inr h ↦ (refusal h.0, other_text h.0 (inl solo) h.1 refl)
           ]
       | inr not_solo ↦

@@ -1,12 +1,13 @@
 -- How a call of `solo` ends, from how its command ends.
-use Rattle.std.proofs.Common.{◌≡◌, ℕ, Bool, List, take, Option, Some, None, refl, sym, ap, subst, ◌∙◌, ◌⊎◌, inl, inr}
+use Rattle.std.proofs.Common.{◌≡◌, ℕ, Bool, List, take, Option, Some, None, Result, Err, refl, sym, ap, subst, ◌∙◌, ◌⊎◌, inl, inr}
 use Rattle.std.specs.Prelude.{IfSome}
 use Rattle.std.proofs.lemmas.Option.{same_Some, none-some}
-use Rattle.cello_io.specs.Writes.{GrewByPart}
-use Rattle.cello_io.proofs.WriteLemmas.{append_known-nil, grew_none}
 use Rattle.params_check.specs.Parameters.{Parameters}
+use Rattle.run_core.specs.Courses.{whole}
 use Rattle.run_core.specs.PlainCounts.{HandlesPlainly}
 use Rattle.run_core.specs.Runs.{MeetsNoLimit}
+use Rattle.run_report.specs.Outputs.{Output, StandsWithin}
+use Rattle.run_report.proofs.Prefixes.{with_actions-nil, within-none}
 use Rattle.cello_top.specs.declared.fault.Fault.{Fault}
 use Rattle.cello_top.specs.declared.fault.Fault.TheVariants.{Usage, ReadFault, WriteFault, Memory}
 use Rattle.cello_top.specs.declared.outcome.Outcome.{Outcome}
@@ -14,8 +15,8 @@ use Rattle.cello_top.specs.declared.words.Command.{Command}
 use Rattle.cello_top.specs.declared.words.Command.TheVariants.{Solo, Check}
 use Rattle.cello_top.specs.Words.{IsSolo, IsCheck, IsCommand}
 use Rattle.cello_top.specs.Faults.{IsAnswered, SawText}
-use Rattle.cello_top.specs.Texts.{HasParameters, unbuilt}
-use Rattle.cello_top.specs.Answers.{Answer, IsAnswer, other_words, other_text, checked, not_built, run, refusal, bytes_of}
+use Rattle.cello_top.specs.Texts.{HasParameters}
+use Rattle.cello_top.specs.Answers.{Answer, IsAnswer, other_words, other_text, checked, run, refusal}
 use Rattle.cello_top.specs.Solo.{ReadOut, Answers, AnswersInPart, read_limit}
 use Rattle.cello_top.specs.Lemmas.CommandSteps.{IsOf, call_saw, AnswersRead, AnswersReadInPart, CommandEnds, command_answered, command_source, command_sink, command_memory, CommandHandles}
 use Rattle.cello_top.proofs.Texts.{front_HasParameters, front_HasTextFault, HasParameters-one}
@@ -35,33 +36,32 @@ front_IsAnswer : (words : List (List ℕ)) (all bytes : List ℕ) (a : Answer) �
 front_IsAnswer words all bytes a front (other_words other e) = other_words other e
 front_IsAnswer words all bytes a front (other_text f set faulty e) = other_text f set (front_HasTextFault all bytes f front faulty) e
 front_IsAnswer words all bytes a front (checked p check has e) = checked p check (front_HasParameters all bytes p front has) e
-front_IsAnswer words all bytes a front (not_built p f solo has some e) = not_built p f solo (front_HasParameters all bytes p front has) some e
-front_IsAnswer words all bytes a front (run p s limit solo has none ends e) = run p s limit solo (front_HasParameters all bytes p front has) none ends e
+front_IsAnswer words all bytes a front (run p s limit solo has ends e) = run p s limit solo (front_HasParameters all bytes p front has) ends e
 
 -- words outside the set
-pub usage-answer : (words : List (List ℕ)) (known left : Option (List ℕ)) (outcome : Outcome) → (IsCommand words → ⊥) → outcome.fault ≡ Some Usage
+pub usage-answer : (words : List (List ℕ)) (known : Output) (left : Option (List ℕ)) (outcome : Outcome) → (IsCommand words → ⊥) → outcome.fault ≡ Some Usage
     → IfSome left (λ bytes. IsAnswered outcome.fault → Answers words bytes outcome known known)
 usage-answer words known left outcome other fault =
     IfSome-from _ left (λ bytes is answered. record {
       answer = refusal Usage;
       is = other_words other refl;
-      keeps = record { fault = fault; written = sym (append_known-nil known) };
+      keeps = record { fault = fault; acted = sym (with_actions-nil known) };
     })
 
 -- a call that ends with a fault tells no count
 pub none-handled : (words : List (List ℕ)) (left : Option (List ℕ)) (outcome : Outcome) (fault : Fault) → outcome.fault ≡ Some fault
-    → IfSome left (λ bytes. (p : Parameters) → IsSolo words → HasParameters bytes p → outcome.fault ≡ None → HandlesPlainly p outcome.handled)
+    → IfSome left (λ bytes. (p : Parameters) → IsSolo words → HasParameters bytes p → outcome.fault ≡ None → HandlesPlainly (whole p) outcome.handled)
 none-handled words left outcome fault is = IfSome-from _ left (λ bytes told p solo has well. absurd (none-some fault (sym well ∙ is)))
 
 module _ (words : List (List ℕ)) (old new : Option (List ℕ)) (ended : Bool) where
   pub done-handled : (command : Command) → IsOf command words → (handled : ℕ) (outcome : Outcome) → outcome.handled ≡ handled → CommandHandles command old new ended handled
-      → IfSome old (λ bytes. (p : Parameters) → IsSolo words → HasParameters bytes p → outcome.fault ≡ None → HandlesPlainly p outcome.handled)
+      → IfSome old (λ bytes. (p : Parameters) → IsSolo words → HasParameters bytes p → outcome.fault ≡ None → HandlesPlainly (whole p) outcome.handled)
   done-handled Solo of handled outcome is h =
       IfSome-from _ old (λ all told p solo has well.
       let q : Parameters = h.0 in
       let r = h.1 in
       let same : q ≡ p = HasParameters-one all q p (front_HasParameters all r.bytes q (read_are old new ended r.bytes all told r.read) r.parameters) has in
-      subst (HandlesPlainly p) (sym is) (subst (λ (x : Parameters). HandlesPlainly x handled) same h.2))
+      subst (HandlesPlainly (whole p)) (sym is) (subst (λ (x : Parameters). HandlesPlainly (whole x) handled) same h.2))
   done-handled Check of handled outcome is h = IfSome-from _ old (λ all told p solo has well. absurd (solo_or_check words solo of))
 
   pub done-handled_check : (command : Command) → IsOf command words → (handled : ℕ) (outcome : Outcome) → outcome.handled ≡ handled → CommandHandles command old new ended handled
@@ -69,13 +69,13 @@ module _ (words : List (List ℕ)) (old new : Option (List ℕ)) (ended : Bool) 
   done-handled_check Solo of handled outcome is h check = absurd (solo_or_check words of check)
   done-handled_check Check of handled outcome is h check = is ∙ h
 
-module _ (words : List (List ℕ)) (old new : Option (List ℕ)) (ended : Bool) (before after : Option (List ℕ)) where
+module _ (words : List (List ℕ)) (old new : Option (List ℕ)) (ended : Bool) (before after : Output) where
   answers : (fault : Option Fault) (outcome : Outcome) → outcome.fault ≡ fault → (all : List ℕ) → old ≡ Some all
       → AnswersRead words fault (call_saw old new ended before after) → Answers words all outcome before after
   answers fault outcome is all told a = record {
     answer = a.answer;
     is = front_IsAnswer words all a.bytes a.answer (read_are old new ended a.bytes all told a.read) a.is;
-    keeps = record { fault = is ∙ a.same_fault; written = a.written };
+    keeps = record { fault = is ∙ a.same_fault; acted = a.acted };
   }
 
   pub done-answer : (outcome : Outcome) → outcome.fault ≡ None → AnswersRead words None (call_saw old new ended before after)
@@ -122,7 +122,7 @@ module _ (words : List (List ℕ)) (old new : Option (List ℕ)) (ended : Bool) 
         go all told (command_sink e a) cut = in_part all told a
         go all told (command_memory e (inl nothing)) cut =
             let h = answer_exists words all in
-            record { answer = h.0; is = h.1; part = subst (λ o. GrewByPart before o (bytes_of h.0.actions)) (sym nothing) (grew_none before (bytes_of h.0.actions)) }
+            record { answer = h.0; is = h.1; part = subst (λ (o : Output). StandsWithin h.0.actions before o) (sym nothing) (within-none h.0.actions before) }
         go all told (command_memory e (inr a)) cut = in_part all told a
 
     pub ends-read : CommandEnds words fault (call_saw old new ended before after) → SawText outcome.fault → (bytes : List ℕ) × ReadOut old new ended bytes
@@ -144,16 +144,31 @@ module _ (words : List (List ℕ)) (old new : Option (List ℕ)) (ended : Bool) 
       completed all told well no_read no_write (command_sink e a) = absurd (no_write (write_cause e))
       completed all told well no_read no_write (command_memory e h) = inr (is ∙ ap Some e)
 
-      pub ends-complete : CommandEnds words fault (call_saw old new ended before after)
-          → IfSome old (λ bytes. (p : Parameters) → IsSolo words → HasParameters bytes p → unbuilt p ≡ None → MeetsNoLimit p → (read_rose → ⊥) → (write_rose → ⊥)
-          → (outcome.fault ≡ None) ⊎ (outcome.fault ≡ Some Memory))
-      ends-complete ends =
-          IfSome-from _ old (λ all told p solo has none free no_read no_write.
-          completed all told (λ a answer. completes words all a p solo has none free answer) no_read no_write ends)
+    pub ends-complete : (read_rose sink_rose shelf_rose : Type 0) → (fault ≡ ReadFault → read_rose) → (fault ≡ WriteFault → sink_rose ⊎ shelf_rose)
+        → CommandEnds words fault (call_saw old new ended before after)
+        → IfSome old (λ bytes. (p : Parameters) → IsSolo words → HasParameters bytes p → MeetsNoLimit (whole p) → (read_rose → ⊥) → (sink_rose → ⊥) → (shelf_rose → ⊥)
+        → (outcome.fault ≡ None) ⊎ (outcome.fault ≡ Some Memory))
+    ends-complete read_rose sink_rose shelf_rose read_cause write_cause ends =
+        IfSome-from _ old (λ all told p solo has free no_read no_sink no_shelf.
+        completed read_rose (sink_rose ⊎ shelf_rose) read_cause write_cause all told (λ a answer. completes words all a p solo has free answer) no_read
+        (λ rose. elim rose [ inl sink ↦ no_sink sink | inr shelf ↦ no_shelf shelf ]) ends)
 
-      pub ends-complete_check : CommandEnds words fault (call_saw old new ended before after)
-          → IfSome old (λ bytes. (p : Parameters) → IsCheck words → HasParameters bytes p → (read_rose → ⊥) → (write_rose → ⊥)
-          → (outcome.fault ≡ None) ⊎ (outcome.fault ≡ Some Memory))
-      ends-complete_check ends =
-          IfSome-from _ old (λ all told p check has no_read no_write.
-          completed all told (λ a answer. completes_check words all a p check has answer) no_read no_write ends)
+    pub ends-complete_check : (read_rose sink_rose : Type 0) → (fault ≡ ReadFault → read_rose) → (IsCheck words → fault ≡ WriteFault → sink_rose)
+        → CommandEnds words fault (call_saw old new ended before after)
+        → IfSome old (λ bytes. (p : Parameters) → IsCheck words → HasParameters bytes p → (read_rose → ⊥) → (sink_rose → ⊥)
+        → (outcome.fault ≡ None) ⊎ (outcome.fault ≡ Some Memory))
+    ends-complete_check read_rose sink_rose read_cause write_cause ends =
+        IfSome-from _ old (λ all told p check has no_read no_write.
+        completed read_rose sink_rose read_cause (write_cause check) all told (λ a answer. completes_check words all a p check has answer) no_read no_write ends)
+
+-- words of `check` are of no other command
+pub check-command : (command : Command) (words : List (List ℕ)) → IsOf command words → IsCheck words → command ≡ Check
+check-command Solo words of check = absurd (solo_or_check words of check)
+check-command Check words of check = refl
+
+-- a call that didn't end by a failed write came from a command that didn't
+pub not-failed : {A : Type 0} (fault : Fault) (outcome : Outcome) (r : Result A Fault) → r ≡ Err fault → outcome.fault ≡ Some fault → (outcome.fault ≡ Some WriteFault → ⊥)
+    → r ≡ Err WriteFault → ⊥
+not-failed fault outcome r is told well failed =
+    let same : fault ≡ WriteFault = cc in
+    well (told ∙ ap Some same)

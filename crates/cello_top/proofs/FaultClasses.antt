@@ -1,54 +1,29 @@
--- What the faults of texts, of what isn't built and of runs come from.
-use Rattle.std.proofs.Common.{◌≡◌, ℕ, suc, List, Bool, true, false, Option, Some, None, cond, refl, sym, ap, subst, ◌∙◌}
+-- What the faults of texts and of runs come from.
+use Rattle.std.proofs.Common.{◌≡◌, ℕ, suc, ◌+◌, List, Some, sym, ap, subst, ◌∙◌}
 use Rattle.std.proofs.lemmas.Option.{same_Some, none-some}
-use Rattle.std.specs.Prelude.{codes, nat_lt, T}
+use Rattle.std.specs.Prelude.{T}
 use Rattle.block_index.specs.Places.{Cube}
 use Rattle.block_index.specs.declared.wish.Wish.{Wish}
-use Rattle.params_check.specs.Parameters.{Parameters}
 use Rattle.run_core.specs.declared.fault.RunFault.{RunFault}
-use Rattle.run_core.specs.Runs.{RunState, PassesLimit, phase_wishes, of_level, of_blocks, RunEnds, after_all, at_limit}
+use Rattle.run_core.specs.Courses.{Course, RunState}
+use Rattle.run_core.specs.Runs.{PassesLimit, phase_wishes, of_level, of_blocks, RunEnds, after_all, at_limit}
 use Rattle.cello_top.specs.declared.fault.Fault.{Fault}
-use Rattle.cello_top.specs.declared.fault.Fault.TheVariants.{Unbuilt}
 use Rattle.cello_top.specs.declared.fault_class.FaultClass.{FaultClass}
 use Rattle.cello_top.specs.declared.fault_class.FaultClass.TheVariants.{Text, Limit}
 use Rattle.cello_top.specs.Faults.{class_of, class_ending, fault_of, IsAnswered, SawText}
-use Rattle.cello_top.specs.Texts.{HasTextFault, of_syntax, of_parameters, unbuilt, unbuilt_file}
+use Rattle.cello_top.specs.Texts.{HasTextFault, of_syntax, of_parameters}
 
 pub text-class : (text : List ℕ) (f : Fault) → HasTextFault text f → class_of f ≡ Text
 text-class text f (of_syntax x a e) = ap class_of e
 text-class text f (of_parameters groups x a r e) = ap class_of e
 
--- nothing, or a fault of the text
-abbrev IsOfText : Option Fault → Type 0
-IsOfText None = Unit {0}
-IsOfText (Some f) = class_of f ≡ Text
-
-chosen : (b : Bool) (group key : List ℕ) (rest : Option Fault) → IsOfText rest → IsOfText (cond b (Some (Unbuilt group key)) rest)
-chosen true group key rest is = refl
-chosen false group key rest is = is
-
-file-IsOfText : (p : Parameters) → IsOfText (unbuilt_file p)
-unfolding unbuilt_file
-file-IsOfText p =
-    let third : Option Fault = cond (nat_lt 0 p.checkpoint_every) (Some (Unbuilt (codes "Output") (codes "checkpoint"))) None in
-    let second : Option Fault = cond (nat_lt 0 p.fields_every) (Some (Unbuilt (codes "Output") (codes "fields"))) third in
-    let last : IsOfText third = chosen (nat_lt 0 p.checkpoint_every) (codes "Output") (codes "checkpoint") None tt in
-    let middle : IsOfText second = chosen (nat_lt 0 p.fields_every) (codes "Output") (codes "fields") third last in
-    chosen (nat_lt 0 p.mesh_every) (codes "Output") (codes "mesh") second middle
-
-unbuilt-IsOfText : (p : Parameters) → IsOfText (unbuilt p)
-unfolding unbuilt
-unbuilt-IsOfText p = chosen (nat_lt 0 p.cycles) (codes "Method") (codes "cycles") (unbuilt_file p) (file-IsOfText p)
-
-pub unbuilt-class : (p : Parameters) (f : Fault) → unbuilt p ≡ Some f → class_of f ≡ Text
-unbuilt-class p f e = subst IsOfText e (unbuilt-IsOfText p)
-
 -- the limit that ends a run
-pub limit-class : (p : Parameters) (s : RunState) (limit : RunFault) → RunEnds p s (Some limit) → class_of (fault_of limit) ≡ Limit
-limit-class p s limit (after_all runs none) = absurd (none-some limit (sym none))
-limit-class p s limit (at_limit phases f below runs passes is) = passed (suc phases) s.state.leaves (phase_wishes p (suc phases) s.state) f passes (same_Some limit f is)
+pub limit-class : (c : Course) (s : RunState) (limit : RunFault) → RunEnds c s (Some limit) → class_of (fault_of limit) ≡ Limit
+limit-class c s limit (after_all runs none) = absurd (none-some limit (sym none))
+limit-class c s limit (at_limit phases f below runs passes is) =
+    passed (c.ended + suc phases) s.state.leaves (phase_wishes c.parameters (c.ended + suc phases) s.state) f passes (same_Some limit f is)
   where
-    passed : (phase : ℕ) (mesh : List Cube) (wishes : List Wish) (f : RunFault) → PassesLimit p phase mesh wishes f → limit ≡ f → class_of (fault_of limit) ≡ Limit
+    passed : (phase : ℕ) (mesh : List Cube) (wishes : List Wish) (f : RunFault) → PassesLimit c.parameters phase mesh wishes f → limit ≡ f → class_of (fault_of limit) ≡ Limit
     passed phase mesh wishes f (of_level i place strict too none e) same = ap (λ (l : RunFault). class_of (fault_of l)) (same ∙ e)
     passed phase mesh wishes f (of_blocks levels keeps least many e) same = ap (λ (l : RunFault). class_of (fault_of l)) (same ∙ e)
 

@@ -2,12 +2,12 @@
 mod OneWord
 mod FaultClasses
 mod TextEnds
-mod Pieces
-mod ReportSteps
+mod BlockAdvances
 mod BlockWishes
-mod FieldLines
+mod EngineSteps
 mod Texts
 mod OneAnswer
 mod AnswerExists
+mod ReportTotals
 mod CommandEnds
 mod Ends

@@ -9,7 +9,7 @@ use Rattle.params_check.specs.declared.fault.ParamFault.{ParamFault}
 use Rattle.params_check.specs.declared.fault.ParamKind.{ParamKind}
 use Rattle.params_check.specs.declared.fault.ParamKind.TheVariants.{Missing, Unknown, Repeated, WrongForm, OutOfRange, Size, Courant, TotalTooLarge}
 use Rattle.cello_top.specs.declared.fault.Fault.{Fault}
-use Rattle.cello_top.specs.declared.fault.Fault.TheVariants.{Usage, Syntax, Param, Unbuilt, LevelLimit, BlockLimit, ReadFault, WriteFault, Memory}
+use Rattle.cello_top.specs.declared.fault.Fault.TheVariants.{Usage, Syntax, Param, LevelLimit, BlockLimit, ReadFault, WriteFault, Memory}
 
 abbrev pub syntax_name : SyntaxKind → List ℕ
 syntax_name syntax.Long = codes "Long"
@@ -42,9 +42,6 @@ param_line fault =
 unfoldable pub syntax_line : SyntaxFault → List ℕ
 syntax_line fault = codes "cello: syntax: " ++ syntax_name fault.kind ++ codes " at " ++ decimal fault.offset ++ codes "\n"
 
-unfoldable pub unbuilt_line : List ℕ → List ℕ → List ℕ
-unbuilt_line group key = codes "cello: not built: " ++ shown_name group ++ codes " " ++ shown_name key ++ codes "\n"
-
 unfoldable pub level_limit_line : ℕ → Cube → List ℕ
 level_limit_line phase place = codes "cello: level limit in phase " ++ decimal phase ++ codes " at " ++ shown_place place ++ codes "\n"
 
@@ -65,7 +62,6 @@ abbrev pub fault_line : Fault → List ℕ
 fault_line Usage = usage_line
 fault_line (Syntax fault) = syntax_line fault
 fault_line (Param fault) = param_line fault
-fault_line (Unbuilt group key) = unbuilt_line group key
 fault_line (LevelLimit phase place) = level_limit_line phase place
 fault_line (BlockLimit phase count limit) = block_limit_line phase count limit
 fault_line ReadFault = read_line

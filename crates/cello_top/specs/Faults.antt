@@ -3,7 +3,7 @@ use Rattle.std.specs.Prelude.{ℕ, Bool, true, false, T, Option, Some, None}
 use Rattle.run_core.specs.declared.fault.RunFault.{RunFault}
 use Rattle.run_core.specs.declared.fault.RunFault.TheVariants as run
 use Rattle.cello_top.specs.declared.fault.Fault.{Fault}
-use Rattle.cello_top.specs.declared.fault.Fault.TheVariants.{Usage, Syntax, Param, Unbuilt, LevelLimit, BlockLimit, ReadFault, WriteFault, Memory}
+use Rattle.cello_top.specs.declared.fault.Fault.TheVariants.{Usage, Syntax, Param, LevelLimit, BlockLimit, ReadFault, WriteFault, Memory}
 use Rattle.cello_top.specs.declared.fault_class.FaultClass.{FaultClass}
 use Rattle.cello_top.specs.declared.fault_class.FaultClass.TheVariants.{Words, Text, Limit, Source, Sink, Allocator}
 
@@ -12,7 +12,6 @@ abbrev pub class_of : Fault → FaultClass
 class_of Usage = Words
 class_of (Syntax fault) = Text
 class_of (Param fault) = Text
-class_of (Unbuilt group key) = Text
 class_of (LevelLimit phase place) = Limit
 class_of (BlockLimit phase count limit) = Limit
 class_of ReadFault = Source

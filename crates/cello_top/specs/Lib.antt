@@ -5,4 +5,5 @@ pub mod FaultLines
 pub mod Texts
 pub mod Answers
 pub mod Solo
+pub mod Balances
 pub mod Lemmas

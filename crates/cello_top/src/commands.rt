@@ -1,55 +1,62 @@
 //! What each command does.
-ghost use Rattle.std.specs.Prelude.{◌≡◌, ℕ, ◌≤◌, List, None, Some, IfOk, IfErr, IsErrOf};
-ghost use Rattle.std.specs.Io.KnownBytes.{append_known};
+ghost use Rattle.std.specs.Prelude.{◌≡◌, ℕ, ◌≤◌, ◌∷◌, [], List, None, Option, Some, IfOk, IfErr, IsErrOf, IsFalse};
 ghost use Rattle.cello_io.specs.Counts.{Rose};
+ghost use Rattle.cello_io.specs.Files.{MadeFile};
 ghost use Rattle.cello_io.specs.Reads.{LostAtMost};
-ghost use Rattle.cello_io.specs.Writes.{GrewByPart};
+ghost use Rattle.run_report.specs.Actions.{piece};
+ghost use Rattle.run_report.specs.Outputs.{Acted, output};
 ghost use Rattle.cello_top.specs.Faults.{CameToWrite};
 ghost use Rattle.cello_top.specs.Solo.{read_limit};
-ghost use Rattle.cello_top.specs.Lemmas.CommandSteps.{IsOf, call_saw, AnswersRead, CommandEnds, CommandHandles};
+ghost use Rattle.cello_top.specs.Lemmas.CommandSteps.{IsOf, call_saw, AnswersRead, CommandEnds, CommandHandles, TreatsDevices};
 
 use crate::engine::run_parameters;
 use crate::fault::Fault;
 use crate::parameters::read_parameters;
 use crate::words::Command;
-use cello_io::{Failed, Sink, Source, write_all};
+use cello_io::{Failed, Shelf, Sink, Source, write_all};
 use params_check::Params;
 use std::alloc::Global;
 
 /// Carries a command out. It answers how many messages were handled.
-pub fn carry_out<S: Source, K: Sink>(
+pub fn carry_out<S: Source, K: Sink, H: Shelf>(
     alloc: Global,
     command: Command,
     source: &mut S,
     sink: &mut K,
+    shelf: &mut H,
 ) -> Result<u64, Fault>
+    requires idle { IsFalse (H.tells shelf.old).is_writing }
     ensures done { (words : List (List ℕ)) → IsOf command words → IfOk result (λ _. AnswersRead words None
-        (call_saw (S.left source.old) (S.left source.new) (S.has_ended source.new) (K.written sink.old) (K.written sink.new))) }
+        (call_saw (S.left source.old) (S.left source.new) (S.has_ended source.new)
+        (output (K.written sink.old) (H.tells shelf.old).written) (output (K.written sink.new) (H.tells shelf.new).written))) }
     ensures ended { (words : List (List ℕ)) → IsOf command words → IfErr result (λ fault. CommandEnds words fault
-        (call_saw (S.left source.old) (S.left source.new) (S.has_ended source.new) (K.written sink.old) (K.written sink.new))) }
+        (call_saw (S.left source.old) (S.left source.new) (S.has_ended source.new)
+        (output (K.written sink.old) (H.tells shelf.old).written) (output (K.written sink.new) (H.tells shelf.new).written))) }
     ensures handled { IfOk result (λ handled.
         CommandHandles command (S.left source.old) (S.left source.new) (S.has_ended source.new) handled) }
     ensures unwritten { IfErr result (λ fault. (CameToWrite (Some fault) → ⊥) → sink.new ≡ sink.old) }
+    ensures unfiled { IfErr result (λ fault. (CameToWrite (Some fault) → ⊥) → shelf.new ≡ shelf.old) }
+    ensures check_files { command ≡ Command.Check → shelf.new ≡ shelf.old }
+    ensures check_cause { command ≡ Command.Check → IsErrOf result Fault.WriteFault → Rose (K.write_faults sink.old) (K.write_faults sink.new) }
     ensures read_most { LostAtMost read_limit (S.left source.old) (S.left source.new) }
     ensures read_cause { IsErrOf result Fault.ReadFault → Rose (S.read_faults source.old) (S.read_faults source.new) }
-    ensures write_cause { IsErrOf result Fault.WriteFault → Rose (K.write_faults sink.old) (K.write_faults sink.new) }
+    ensures devices { TreatsDevices (K.write_faults sink.old) (K.write_faults sink.new) (H.tells shelf.old) (H.tells shelf.new) (IsErrOf result Fault.WriteFault) }
     ensures same_rest { K.rest sink.new ≡ K.rest sink.old }
     ensures read_faults { S.read_faults source.old ≤ S.read_faults source.new }
-    ensures write_faults { K.write_faults sink.old ≤ K.write_faults sink.new }
 {
     let params = read_parameters(alloc, source)?;
     match command {
         Command::Check => write_text(&params, sink),
-        Command::Solo => run_parameters(alloc, params, sink),
+        Command::Solo => run_parameters(alloc, params, sink, shelf),
     }
 }
 
-/// Writes the canonical text.
+/// Writes the canonical text. It handles no message.
 fn write_text<K: Sink>(params: &Params, sink: &mut K) -> Result<u64, Fault>
-    ensures written { IfOk result (λ _. K.written sink.new ≡ append_known (K.written sink.old) params.now.text) }
+    ensures acted { (files : Option (List MadeFile)) →
+        Acted (piece params.now.text ∷ []) (output (K.written sink.old) files) (output (K.written sink.new) files) result }
     ensures handled { IfOk result (λ handled. handled ≡ 0) }
     ensures ended { IfErr result (λ fault. fault ≡ Fault.WriteFault) }
-    ensures part { IfErr result (λ _. GrewByPart (K.written sink.old) (K.written sink.new) params.now.text) }
     ensures write_cause { IfErr result (λ _. Rose (K.write_faults sink.old) (K.write_faults sink.new)) }
     ensures same_rest { K.rest sink.new ≡ K.rest sink.old }
     ensures write_faults { K.write_faults sink.old ≤ K.write_faults sink.new }

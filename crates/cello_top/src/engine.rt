@@ -1,80 +1,96 @@
-//! The run on one thread: each work of the run in its turn, and each line of the report when it is known.
-ghost use Rattle.std.specs.Prelude.{◌≡◌, ℕ, ◌+◌, ◌<◌, ◌≤◌, ◌⊎◌, Option, None, Some, IfOk, IfErr, IfSome, IsErrOf, List, OnErr, OnOk};
-ghost use Rattle.cello_io.specs.Counts.{HasCause, Rose};
-ghost use Rattle.run_core.specs.Lemmas.Bounds.{many_messages};
-ghost use Rattle.run_core.specs.PlainCounts.{HandlesPlainly};
-ghost use Rattle.run_core.specs.Steps.{after_phase};
-ghost use Rattle.run_core.specs.Works.{IsAdapt, IsEmission, IsEnd, IsRefresh, IsWishes, IsWork, PassesNext, StandsAt, stage_out, works_left};
-ghost use Rattle.cello_top.specs.Faults.{CameToWrite};
-ghost use Rattle.cello_top.specs.Texts.{unbuilt};
-ghost use Rattle.cello_top.specs.Lemmas.CommandSteps.{RanInPart, RanWritten, RunningEnds};
-ghost use Rattle.cello_top.specs.Lemmas.Engine.{Begins, CountsNext, Goes, RanWhole, Tells};
+//! The run on one thread: each work of the run in its turn, and what is told of it written as soon as it is known.
+ghost use Rattle.std.specs.Prelude.{◌≡◌, ℕ, ◌+◌, ◌<◌, ◌≤◌, IfOk, IfErr, IfSome, IsErr, IsErrOf, IsFalse, List, [], OnErr, OnOk, Option};
+ghost use Rattle.cello_io.specs.Counts.{Rose};
+ghost use Rattle.cello_io.specs.Files.{MadeFile};
+ghost use Rattle.run_core.specs.CourseLimits.{IsCourse};
+ghost use Rattle.run_core.specs.Courses.{whole};
+ghost use Rattle.run_core.specs.Lemmas.Bounds.{many_messages, most_works};
+ghost use Rattle.run_core.specs.Works.{IsAdapt, IsCounted, IsEmission, IsTold, IsWork, stage_out, works_left};
+ghost use Rattle.run_report.specs.Outputs.{Output, output};
+ghost use Rattle.cello_top.specs.Lemmas.CommandSteps.{RanInPart, RanWhole, RunningEnds, TreatsDevices};
+ghost use Rattle.cello_top.specs.Lemmas.Engine.{Goes, Stands, Tells};
 
 use crate::fault::Fault;
-use crate::report::{write_cycle, write_list};
-use crate::unbuilt::unbuilt;
-use crate::wishes::block_wishes;
-use adapt_core::{Adapt, AdaptCell, few_messages};
-use block_fields::Block;
-use cello_io::{Failed, Sink};
+use crate::works::{drive_phase, fix_fluxes, give_advanced, give_wishes, refresh_blocks};
+use adapt_core::{Adapt, AdaptCell};
+use cello_io::{Failed, Shelf, Sink};
 use cello_num::Memory;
-use mesh_output::{write_header, write_phase_line};
 use params_check::Params;
-use phase_core::drive;
-use refresh_phase::{Refresh, RefreshCell};
-use run_core::{Run, RunFault, Stage, Step, Work};
+use run_core::{Emission, Run, Stage, Work};
+use run_report::{Due, emit, write_end_list, write_first_line, write_told_phase};
 use std::alloc::Global;
 
-/// Runs the parameters, and writes each line of the report when it is known. It answers how many messages were handled.
-pub fn run_parameters<K: Sink>(alloc: Global, params: Params, sink: &mut K) -> Result<u64, Fault>
-    ensures written { IfOk result (λ _. RanWritten params None (K.written sink.old) (K.written sink.new)) }
-    ensures handled { IfOk result (λ handled. HandlesPlainly params handled) }
-    ensures ended { IfErr result (RunningEnds params (K.written sink.old) (K.written sink.new)) }
-    ensures unwritten { IfErr result (λ fault. (CameToWrite (Some fault) → ⊥) → sink.new ≡ sink.old) }
-    ensures write_cause { IsErrOf result Fault.WriteFault → Rose (K.write_faults sink.old) (K.write_faults sink.new) }
+/// Runs the parameters, and writes what is told of the run as soon as it is known. It answers how many messages were
+/// handled.
+pub(crate) fn run_parameters<K: Sink, H: Shelf>(
+    alloc: Global,
+    params: Params,
+    sink: &mut K,
+    shelf: &mut H,
+) -> Result<u64, Fault>
+    requires idle { IsFalse (H.tells shelf.old).is_writing }
+    ensures whole { IfOk result (λ handled. RanWhole (whole params) handled
+        (output (K.written sink.old) (H.tells shelf.old).written) (output (K.written sink.new) (H.tells shelf.new).written)) }
+    ensures ended { IfErr result (RunningEnds (whole params)
+        (output (K.written sink.old) (H.tells shelf.old).written) (output (K.written sink.new) (H.tells shelf.new).written)) }
+    ensures devices { TreatsDevices (K.write_faults sink.old) (K.write_faults sink.new) (H.tells shelf.old) (H.tells shelf.new) (IsErrOf result Fault.WriteFault) }
     ensures same_rest { K.rest sink.new ≡ K.rest sink.old }
-    ensures write_faults { K.write_faults sink.old ≤ K.write_faults sink.new }
 {
-    if let Some(fault) = unbuilt(&params) {
-        return Err(fault);
-    }
+    let _limits = params.domain();
     match Run::begin(alloc, params) {
-        Ok(run) => report_run(alloc, run, sink),
+        Ok(run) => report_run(alloc, run, sink, shelf),
         Err(Memory) => Err(Fault::Memory),
     }
 }
 
-/// Does all works of a run that begins, and writes its report.
-fn report_run<K: Sink>(alloc: Global, mut run: Run, sink: &mut K) -> Result<u64, Fault>
-    requires built { unbuilt run.parameters ≡ None }
-    requires begins { Begins run }
-    ensures whole { IfOk result (λ handled. RanWhole run.parameters handled (K.written sink.old) (K.written sink.new)) }
-    ensures ended { IfErr result (RunningEnds run.parameters (K.written sink.old) (K.written sink.new)) }
-    ensures write_cause { IsErrOf result Fault.WriteFault → Rose (K.write_faults sink.old) (K.write_faults sink.new) }
+/// Does all works of a run that begins, and writes what is told of it.
+fn report_run<K: Sink, H: Shelf>(
+    alloc: Global,
+    mut run: Run,
+    sink: &mut K,
+    shelf: &mut H,
+) -> Result<u64, Fault>
+    requires limits { IsCourse run.course }
+    requires told { IsTold run [] }
+    requires counted { IsCounted run 0 }
+    requires stands { Stands run }
+    requires next { run.stage ≡ Stage.Next }
+    requires few { works_left run ≤ most_works }
+    requires idle { IsFalse (H.tells shelf.old).is_writing }
+    ensures whole { IfOk result (λ handled. RanWhole run.course handled
+        (output (K.written sink.old) (H.tells shelf.old).written) (output (K.written sink.new) (H.tells shelf.new).written)) }
+    ensures ended { IfErr result (RunningEnds run.course
+        (output (K.written sink.old) (H.tells shelf.old).written) (output (K.written sink.new) (H.tells shelf.new).written)) }
+    ensures devices { TreatsDevices (K.write_faults sink.old) (K.write_faults sink.new) (H.tells shelf.old) (H.tells shelf.new) (IsErrOf result Fault.WriteFault) }
     ensures same_rest { K.rest sink.new ≡ K.rest sink.old }
-    ensures write_faults { K.write_faults sink.old ≤ K.write_faults sink.new }
 {
-    if let Err(Failed) = write_header(sink) {
-        return Err(Fault::WriteFault);
+    match write_first_line(sink) {
+        Ok(()) => do_works(alloc, &mut run, sink, shelf),
+        Err(Failed) => Err(Fault::WriteFault),
     }
-    do_works(alloc, &mut run, sink)
 }
 
-/// Does all works from the first one on.
-fn do_works<K: Sink>(alloc: Global, run: &mut Run, sink: &mut K) -> Result<u64, Fault>
-    requires built { unbuilt run.old.parameters ≡ None }
-    requires begins { Begins run.old }
-    ensures whole { (before : Option (List ℕ)) → Tells run.old 0 before (K.written sink.old) →
-        IfOk result (λ handled. RanWhole run.old.parameters handled before (K.written sink.new)) }
-    ensures ended { (before : Option (List ℕ)) → Tells run.old 0 before (K.written sink.old) →
-        IfErr result (RunningEnds run.old.parameters before (K.written sink.new)) }
-    ensures write_cause { IsErrOf result Fault.WriteFault → Rose (K.write_faults sink.old) (K.write_faults sink.new) }
+/// Does all works from the next one on.
+fn do_works<K: Sink, H: Shelf>(
+    alloc: Global,
+    run: &mut Run,
+    sink: &mut K,
+    shelf: &mut H,
+) -> Result<u64, Fault>
+    requires limits { IsCourse run.old.course }
+    requires next { run.old.stage ≡ Stage.Next }
+    requires few { works_left run.old ≤ most_works }
+    requires idle { IsFalse (H.tells shelf.old).is_writing }
+    ensures whole { (before : Output) → Tells run.old 0 before (output (K.written sink.old) (H.tells shelf.old).written) →
+        IfOk result (λ handled. RanWhole run.old.course handled before (output (K.written sink.new) (H.tells shelf.new).written)) }
+    ensures ended { (before : Output) → Tells run.old 0 before (output (K.written sink.old) (H.tells shelf.old).written) →
+        IfErr result (RunningEnds run.old.course before (output (K.written sink.new) (H.tells shelf.new).written)) }
+    ensures devices { TreatsDevices (K.write_faults sink.old) (K.write_faults sink.new) (H.tells shelf.old) (H.tells shelf.new) (IsErrOf result Fault.WriteFault) }
     ensures same_rest { K.rest sink.new ≡ K.rest sink.old }
-    ensures write_faults { K.write_faults sink.old ≤ K.write_faults sink.new }
 {
     let mut handled = 0;
     loop {
-        match do_next(alloc, run, sink) {
+        match do_next(alloc, run, sink, shelf) {
             Ok(Some(count)) => handled += count,
             Ok(None) => return Ok(handled),
             Err(fault) => return Err(fault),
@@ -83,48 +99,56 @@ fn do_works<K: Sink>(alloc: Global, run: &mut Run, sink: &mut K) -> Result<u64, 
 }
 
 /// Does the next work. It answers how many messages were handled, or none where there was no more work.
-fn do_next<K: Sink>(alloc: Global, run: &mut Run, sink: &mut K) -> Result<Option<u64>, Fault>
-    requires built { unbuilt run.old.parameters ≡ None }
+fn do_next<K: Sink, H: Shelf>(
+    alloc: Global,
+    run: &mut Run,
+    sink: &mut K,
+    shelf: &mut H,
+) -> Result<Option<u64>, Fault>
+    requires limits { IsCourse run.old.course }
     requires next { run.old.stage ≡ Stage.Next }
-    ensures goes { (handled : ℕ) (before : Option (List ℕ)) → Tells run.old handled before (K.written sink.old) →
-        IfOk result (Goes run.new handled before (K.written sink.new)) }
-    ensures ended { (handled : ℕ) (before : Option (List ℕ)) → Tells run.old handled before (K.written sink.old) →
-        IfErr result (RunningEnds run.old.parameters before (K.written sink.new)) }
-    ensures same { IfOk result (λ _. run.new.parameters ≡ run.old.parameters) }
+    requires idle { IsFalse (H.tells shelf.old).is_writing }
+    ensures goes { (handled : ℕ) (before : Output) → Tells run.old handled before (output (K.written sink.old) (H.tells shelf.old).written) →
+        IfOk result (Goes run.new handled before (output (K.written sink.new) (H.tells shelf.new).written)) }
+    ensures ended { (handled : ℕ) (before : Output) → Tells run.old handled before (output (K.written sink.old) (H.tells shelf.old).written) →
+        IfErr result (RunningEnds run.old.course before (output (K.written sink.new) (H.tells shelf.new).written)) }
+    ensures same { IfOk result (λ _. run.new.course ≡ run.old.course) }
     ensures next { IfOk result (λ _. run.new.stage ≡ Stage.Next) }
     ensures fewer { IfOk result (λ went. IfSome went (λ _. works_left run.new < works_left run.old)) }
     ensures few { IfOk result (λ went. IfSome went (λ count. count ≤ many_messages)) }
-    ensures write_cause { IsErrOf result Fault.WriteFault → Rose (K.write_faults sink.old) (K.write_faults sink.new) }
+    ensures devices { TreatsDevices (K.write_faults sink.old) (K.write_faults sink.new) (H.tells shelf.old) (H.tells shelf.new) (IsErrOf result Fault.WriteFault) }
     ensures same_rest { K.rest sink.new ≡ K.rest sink.old }
-    ensures write_faults { K.write_faults sink.old ≤ K.write_faults sink.new }
 {
+    let _set = run.set();
     match run.work(alloc) {
-        Ok(work) => do_work(alloc, run, work, sink),
+        Ok(work) => do_work(alloc, run, work, sink, shelf),
         Err(fault) => Err(Fault::from(fault)),
     }
 }
 
 /// Does a work that is out.
-fn do_work<K: Sink>(
+fn do_work<K: Sink, H: Shelf>(
     alloc: Global,
     run: &mut Run,
     work: Work,
     sink: &mut K,
+    shelf: &mut H,
 ) -> Result<Option<u64>, Fault>
-    requires built { unbuilt run.old.parameters ≡ None }
+    requires limits { IsCourse run.old.course }
     requires out { run.old.stage ≡ stage_out run.old.step }
     requires work { IsWork run.old work }
-    ensures goes { (handled : ℕ) (before : Option (List ℕ)) → Tells run.old handled before (K.written sink.old) →
-        IfOk result (Goes run.new handled before (K.written sink.new)) }
-    ensures ended { (handled : ℕ) (before : Option (List ℕ)) → Tells run.old handled before (K.written sink.old) →
-        IfErr result (RunningEnds run.old.parameters before (K.written sink.new)) }
-    ensures same { IfOk result (λ _. run.new.parameters ≡ run.old.parameters) }
+    requires stands { Stands run.old }
+    requires idle { IsFalse (H.tells shelf.old).is_writing }
+    ensures goes { (handled : ℕ) (before : Output) → Tells run.old handled before (output (K.written sink.old) (H.tells shelf.old).written) →
+        IfOk result (Goes run.new handled before (output (K.written sink.new) (H.tells shelf.new).written)) }
+    ensures ended { (handled : ℕ) (before : Output) → Tells run.old handled before (output (K.written sink.old) (H.tells shelf.old).written) →
+        IfErr result (RunningEnds run.old.course before (output (K.written sink.new) (H.tells shelf.new).written)) }
+    ensures same { IfOk result (λ _. run.new.course ≡ run.old.course) }
     ensures next { IfOk result (λ _. run.new.stage ≡ Stage.Next) }
     ensures fewer { IfOk result (λ went. IfSome went (λ _. works_left run.new < works_left run.old)) }
     ensures few { IfOk result (λ went. IfSome went (λ count. count ≤ many_messages)) }
-    ensures write_cause { IsErrOf result Fault.WriteFault → Rose (K.write_faults sink.old) (K.write_faults sink.new) }
+    ensures devices { TreatsDevices (K.write_faults sink.old) (K.write_faults sink.new) (H.tells shelf.old) (H.tells shelf.new) (IsErrOf result Fault.WriteFault) }
     ensures same_rest { K.rest sink.new ≡ K.rest sink.old }
-    ensures write_faults { K.write_faults sink.old ≤ K.write_faults sink.new }
 {
     match work {
         Work::Refresh(phase, cells) => match refresh_blocks(alloc, run, phase, cells) {
@@ -139,73 +163,23 @@ fn do_work<K: Sink>(
             Ok(count) => Ok(Some(count)),
             Err(fault) => Err(fault),
         },
-        Work::Emit(_) => match tell_cycle(run, sink) {
+        Work::Advance(blocks) => match give_advanced(alloc, run, blocks) {
+            Ok(()) => Ok(Some(0)),
+            Err(Memory) => Err(Fault::Memory),
+        },
+        Work::Flux(phase, cells) => match fix_fluxes(alloc, run, phase, cells) {
+            Ok(()) => Ok(Some(0)),
+            Err(Memory) => Err(Fault::Memory),
+        },
+        Work::Emit(emission) => match tell_cycle(run, emission, sink, shelf) {
             Ok(()) => Ok(Some(0)),
             Err(Failed) => Err(Fault::WriteFault),
         },
-        Work::Ended => match write_list(run.set(), sink) {
+        Work::Ended => match write_end_list(run.set(), sink) {
             Ok(()) => Ok(None),
             Err(Failed) => Err(Fault::WriteFault),
         },
     }
-}
-
-/// Drives the refresh of the blocks to its rest, and hands it back. Its messages aren't counted.
-fn refresh_blocks(
-    alloc: Global,
-    run: &mut Run,
-    phase: Refresh,
-    cells: Vec<RefreshCell>,
-) -> Result<(), Memory>
-    requires out { run.old.stage ≡ Stage.Out }
-    requires work { IsRefresh run.old phase cells.items }
-    ensures next { OnOk result (run.new ≡ record run.old { step = Step.Wishes; stage = Stage.Next }) }
-    ensures fewer { OnOk result (works_left run.new < works_left run.old) }
-{
-    let quiet = drive(alloc, phase, cells)?;
-    run.done_refresh(alloc, quiet)?;
-    Ok(())
-}
-
-/// Gives the run the wish of each leaf by the criteria.
-fn give_wishes(alloc: Global, run: &mut Run, blocks: Vec<Block>) -> Result<(), Memory>
-    requires out { run.old.stage ≡ Stage.Out }
-    requires work { IsWishes run.old blocks.items }
-    ensures next { OnOk result (run.new ≡ record run.old { step = Step.Adapt; stage = Stage.Next }) }
-    ensures fewer { OnOk result (works_left run.new < works_left run.old) }
-{
-    let criteria = run.params().criteria().items();
-    let wishes = block_wishes(alloc, criteria, run.phase() + 1, &blocks)?;
-    run.done_wishes(blocks, wishes);
-    Ok(())
-}
-
-/// Drives the phase to its rest, hands it back, and answers how many messages were handled.
-fn drive_phase(
-    alloc: Global,
-    run: &mut Run,
-    phase: Adapt,
-    cells: Vec<AdaptCell>,
-) -> Result<u64, RunFault>
-    requires out { run.old.stage ≡ Stage.Out }
-    requires work { IsAdapt run.old phase cells.items }
-    ensures next { IfOk result (λ _. run.new ≡ record run.old {
-      set = run.new.set;
-      phase = run.old.phase + 1;
-      step = after_phase run.old.parameters (run.old.phase + 1);
-      stage = Stage.Next;
-    }) }
-    ensures fewer { IfOk result (λ _. works_left run.new < works_left run.old) }
-    ensures plain { IfOk result (λ count. CountsNext run.old count) }
-    ensures few { IfOk result (λ count. count ≤ many_messages) }
-    ensures limit { IfErr result (λ fault. (fault ≡ RunFault.Memory) ⊎ PassesNext run.old fault) }
-{
-    let _set = run.set();
-    let quiet = drive(alloc, phase, cells)?;
-    let handled = quiet.handled();
-    few_messages();
-    run.done_adapt(alloc, quiet)?;
-    Ok(handled)
 }
 
 /// Runs an adapt phase, and writes its line.
@@ -216,14 +190,15 @@ fn run_phase<K: Sink>(
     cells: Vec<AdaptCell>,
     sink: &mut K,
 ) -> Result<u64, Fault>
-    requires built { unbuilt run.old.parameters ≡ None }
+    requires limits { IsCourse run.old.course }
     requires out { run.old.stage ≡ Stage.Out }
     requires work { IsAdapt run.old phase cells.items }
-    ensures told { (handled : ℕ) (before : Option (List ℕ)) → Tells run.old handled before (K.written sink.old) →
-        IfOk result (λ count. Tells run.new (handled + count) before (K.written sink.new)) }
-    ensures ended { (handled : ℕ) (before : Option (List ℕ)) → Tells run.old handled before (K.written sink.old) →
-        IfErr result (RunningEnds run.old.parameters before (K.written sink.new)) }
-    ensures same { IfOk result (λ _. run.new.parameters ≡ run.old.parameters) }
+    requires stands { Stands run.old }
+    ensures told { (handled : ℕ) (before : Output) (files : Option (List MadeFile)) → Tells run.old handled before (output (K.written sink.old) files) →
+        IfOk result (λ count. Tells run.new (handled + count) before (output (K.written sink.new) files)) }
+    ensures ended { (handled : ℕ) (before : Output) (files : Option (List MadeFile)) → Tells run.old handled before (output (K.written sink.old) files) →
+        IfErr result (RunningEnds run.old.course before (output (K.written sink.new) files)) }
+    ensures same { IfOk result (λ _. run.new.course ≡ run.old.course) }
     ensures next { IfOk result (λ _. run.new.stage ≡ Stage.Next) }
     ensures fewer { IfOk result (λ _. works_left run.new < works_left run.old) }
     ensures few { IfOk result (λ count. count ≤ many_messages) }
@@ -235,28 +210,50 @@ fn run_phase<K: Sink>(
         Ok(handled) => handled,
         Err(fault) => return Err(Fault::from(fault)),
     };
-    match write_phase_line(run.phase(), run.set().len() as u32, sink) {
+    match write_told_phase(run.phase(), run.set().len() as u32, sink) {
         Ok(()) => Ok(handled),
         Err(Failed) => Err(Fault::WriteFault),
     }
 }
 
-/// Writes the lines of a cycle.
-fn tell_cycle<K: Sink>(run: &mut Run, sink: &mut K) -> Result<(), Failed>
-    requires built { unbuilt run.old.parameters ≡ None }
+/// Writes the lines of a cycle, and makes the files that are due after it.
+fn tell_cycle<K: Sink, H: Shelf>(
+    run: &mut Run,
+    emission: Emission,
+    sink: &mut K,
+    shelf: &mut H,
+) -> Result<(), Failed>
+    requires limits { IsCourse run.old.course }
     requires out { run.old.stage ≡ Stage.Out }
-    requires step { run.old.step ≡ Step.Emit }
-    requires all { run.old.phase ≡ run.old.parameters.rounds }
-    ensures told { (handled : ℕ) (before : Option (List ℕ)) → Tells run.old handled before (K.written sink.old) →
-        OnOk result (Tells run.new handled before (K.written sink.new)) }
-    ensures part { (handled : ℕ) (before : Option (List ℕ)) → Tells run.old handled before (K.written sink.old) →
-        OnErr result (RanInPart run.old.parameters before (K.written sink.new)) }
-    ensures next { OnOk result (run.new ≡ record run.old { step = Step.Ended; stage = Stage.Next }) }
+    requires work { IsEmission run.old emission }
+    requires stands { Stands run.old }
+    requires idle { IsFalse (H.tells shelf.old).is_writing }
+    ensures told { (handled : ℕ) (before : Output) → Tells run.old handled before (output (K.written sink.old) (H.tells shelf.old).written) →
+        OnOk result (Tells run.new handled before (output (K.written sink.new) (H.tells shelf.new).written)) }
+    ensures part { (handled : ℕ) (before : Output) → Tells run.old handled before (output (K.written sink.old) (H.tells shelf.old).written) →
+        OnErr result (RanInPart run.old.course before (output (K.written sink.new) (H.tells shelf.new).written)) }
+    ensures same { OnOk result (run.new.course ≡ run.old.course) }
+    ensures next { OnOk result (run.new.stage ≡ Stage.Next) }
     ensures fewer { OnOk result (works_left run.new < works_left run.old) }
+    ensures devices { TreatsDevices (K.write_faults sink.old) (K.write_faults sink.new) (H.tells shelf.old) (H.tells shelf.new) (IsErr result) }
     ensures same_rest { K.rest sink.new ≡ K.rest sink.old }
-    ensures cause { HasCause (K.write_faults sink.old) (K.write_faults sink.new) result }
 {
-    write_cycle(run.params(), run.set(), run.blocks(), sink)?;
+    let due = Due {
+        mesh: emission.mesh,
+        fields: emission.fields,
+        checkpoint: emission.checkpoint,
+    };
+    let told = emit(
+        due,
+        run.params(),
+        run.cycle(),
+        run.set(),
+        run.blocks(),
+        run.ledger(),
+        sink,
+        shelf,
+    );
     run.done_emit();
-    Ok(())
+    let _set = run.set();
+    told
 }

@@ -4,7 +4,6 @@ ghost use Rattle.cello_top.specs.Faults.{class_of, fault_of};
 
 use crate::fault_class::FaultClass;
 use block_index::Place;
-use cello_num::Name;
 use params_check::ParamFault;
 use params_syntax::SyntaxFault;
 use run_core::RunFault;
@@ -18,15 +17,13 @@ pub enum Fault {
     Syntax(SyntaxFault),
     /// The parameters are at fault.
     Param(ParamFault),
-    /// The parameters ask for something that can't be run yet: the first such key.
-    Unbuilt { group: Name, key: Name },
     /// With strict parameters, this leaf of the finest level wishes to refine in this phase, the first such leaf.
     LevelLimit { phase: u32, place: Place },
     /// This phase would lead to more leaves than there may be blocks.
     BlockLimit { phase: u32, count: u32, limit: u32 },
     /// The source failed.
     ReadFault,
-    /// The sink failed.
+    /// The sink failed, or the shelf while a file was written.
     WriteFault,
     /// Memory was refused.
     Memory,
@@ -39,7 +36,7 @@ impl Fault {
     {
         match self {
             Fault::Usage => FaultClass::Words,
-            Fault::Syntax(_) | Fault::Param(_) | Fault::Unbuilt { .. } => FaultClass::Text,
+            Fault::Syntax(_) | Fault::Param(_) => FaultClass::Text,
             Fault::LevelLimit { .. } | Fault::BlockLimit { .. } => FaultClass::Limit,
             Fault::ReadFault => FaultClass::Source,
             Fault::WriteFault => FaultClass::Sink,

@@ -7,13 +7,13 @@ ghost use Rattle.cello_top.specs.Faults.{class_ending};
 pub enum FaultClass {
     /// The words after the program's name.
     Words,
-    /// The text of the source, or what it asks for.
+    /// The text of the source.
     Text,
     /// A limit of the run.
     Limit,
     /// The source.
     Source,
-    /// The sink.
+    /// The sink, or the shelf while a file was written.
     Sink,
     /// Want of memory.
     Allocator,

@@ -2,12 +2,11 @@
 ghost use Rattle.std.specs.Prelude.{◌≡◌, ◌≤◌, length};
 ghost use Rattle.cello_io.specs.Counts.{HasCause};
 ghost use Rattle.cello_io.specs.Writes.{Wrote};
-ghost use Rattle.cello_top.specs.FaultLines.{syntax_name, kind_name, syntax_line, param_line, unbuilt_line, level_limit_line, block_limit_line, fault_line};
+ghost use Rattle.cello_top.specs.FaultLines.{syntax_name, kind_name, syntax_line, param_line, level_limit_line, block_limit_line, fault_line};
 
 use crate::fault::Fault;
 use block_index::Place;
 use cello_io::{Failed, Sink, write_all};
-use cello_num::Name;
 use params_check::{ParamFault, ParamKind};
 use params_syntax::{SyntaxFault, SyntaxKind};
 use text_line::Line;
@@ -72,18 +71,6 @@ fn param_line(fault: &ParamFault) -> Line
     line
 }
 
-#[tactic(auto, unfolding(crate::specs::FaultLines::unbuilt_line))]
-fn unbuilt_line(group: &Name, key: &Name) -> Line
-    ensures line { result ≡ unbuilt_line group.now key.now }
-{
-    let mut line = Line::of(b"cello: not built: ");
-    line.push_name(group);
-    line.push(b" ");
-    line.push_name(key);
-    line.push(b"\n");
-    line
-}
-
 #[tactic(auto, unfolding(crate::specs::FaultLines::level_limit_line))]
 fn level_limit_line(phase: u32, place: Place) -> Line
     ensures line { result ≡ level_limit_line phase place }
@@ -120,7 +107,6 @@ fn fault_line(fault: &Fault) -> Line
         ),
         Fault::Syntax(fault) => syntax_line(fault),
         Fault::Param(fault) => param_line(fault),
-        Fault::Unbuilt { group, key } => unbuilt_line(group, key),
         Fault::LevelLimit { phase, place } => level_limit_line(*phase, *place),
         Fault::BlockLimit {
             phase,

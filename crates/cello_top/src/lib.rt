@@ -5,6 +5,7 @@
 //! ends by each class of faults. The run of parameters stands in `run_core`.
 #![tactic(auto)]
 
+mod advances;
 mod commands;
 mod engine;
 mod fault;
@@ -14,13 +15,12 @@ mod laws;
 mod one_thread;
 mod outcome;
 mod parameters;
-mod report;
-mod unbuilt;
 mod wishes;
 mod words;
+mod works;
 
 pub use fault::Fault;
 pub use fault_lines::write_fault;
-pub use laws::{answer_exists, one_answer};
+pub use laws::{answer_exists, every_cycle_balances, one_answer};
 pub use one_thread::solo;
 pub use outcome::Outcome;

@@ -1,19 +1,22 @@
 -- What the steps of a command leave behind: reading the parameters, and carrying the command out.
-use Rattle.std.specs.Prelude.{◌≡◌, ℕ, ◌⊎◌, Bool, List, Option, Some, None}
-use Rattle.std.specs.Io.KnownBytes.{append_known}
-use Rattle.cello_io.specs.Writes.{GrewByPart}
+use Rattle.std.specs.Prelude.{◌≡◌, ℕ, ◌≤◌, ◌⊎◌, Bool, IsFalse, List, Option, Some, None}
+use Rattle.cello_io.specs.Counts.{Rose}
+use Rattle.cello_io.specs.Files.{SamePast, ShelfTells}
 use Rattle.params_check.specs.Parameters.{Parameters}
 use Rattle.run_core.specs.declared.fault.RunFault.{RunFault}
+use Rattle.run_core.specs.Courses.{Course, RunState, whole}
 use Rattle.run_core.specs.PlainCounts.{HandlesPlainly}
-use Rattle.run_core.specs.Runs.{RunState, RunEnds}
+use Rattle.run_core.specs.Runs.{RunEnds}
+use Rattle.run_report.specs.Actions.{run_actions}
+use Rattle.run_report.specs.Outputs.{Output, StandsWithin, with_actions}
 use Rattle.cello_top.specs.declared.fault.Fault.{Fault}
 use Rattle.cello_top.specs.declared.fault.Fault.TheVariants.{ReadFault, WriteFault, Memory}
 use Rattle.cello_top.specs.declared.words.Command.{Command}
 use Rattle.cello_top.specs.declared.words.Command.TheVariants.{Solo, Check}
 use Rattle.cello_top.specs.Words.{IsSolo, IsCheck}
 use Rattle.cello_top.specs.Faults.{IsAnswered, SawText, fault_of}
-use Rattle.cello_top.specs.Texts.{HasParameters, HasTextFault, unbuilt}
-use Rattle.cello_top.specs.Answers.{Answer, IsAnswer, bytes_of, report}
+use Rattle.cello_top.specs.Texts.{HasParameters, HasTextFault}
+use Rattle.cello_top.specs.Answers.{Answer, IsAnswer}
 use Rattle.cello_top.specs.Solo.{ReadOut}
 
 -- the words of a command
@@ -21,16 +24,16 @@ abbrev pub IsOf : Command → List (List ℕ) → Type 0
 IsOf Solo words = IsSolo words
 IsOf Check words = IsCheck words
 
--- What a call saw: the bytes left in the source before and after it, whether the source has ended, and the bytes
--- written to the sink before and after it.
+-- What a call saw: the bytes left in the source before and after it, whether the source has ended, and what the sink
+-- and the shelf told of what was written before and after it.
 pub record Seen : Type 0 where
   pub left_before : Option (List ℕ)
   pub left_after : Option (List ℕ)
   pub has_ended : Bool
-  pub written_before : Option (List ℕ)
-  pub written_after : Option (List ℕ)
+  pub written_before : Output
+  pub written_after : Output
 
-abbrev pub call_saw : Option (List ℕ) → Option (List ℕ) → Bool → Option (List ℕ) → Option (List ℕ) → Seen
+abbrev pub call_saw : Option (List ℕ) → Option (List ℕ) → Bool → Output → Output → Seen
 call_saw left_before left_after has_ended written_before written_after = record {
   left_before = left_before;
   left_after = left_after;
@@ -58,7 +61,7 @@ pub record AnswersRead (words : List (List ℕ)) (fault : Option Fault) (saw : S
   pub answer : Answer
   pub is : IsAnswer words bytes answer
   pub same_fault : fault ≡ answer.fault
-  pub written : saw.written_after ≡ append_known saw.written_before (bytes_of answer.actions)
+  pub acted : saw.written_after ≡ with_actions saw.written_before answer.actions
 
 -- the command wrote a part of what the answer says
 pub record AnswersReadInPart (words : List (List ℕ)) (saw : Seen) : Type 0 where
@@ -66,7 +69,7 @@ pub record AnswersReadInPart (words : List (List ℕ)) (saw : Seen) : Type 0 whe
   pub read : ReadOut saw.left_before saw.left_after saw.has_ended bytes
   pub answer : Answer
   pub is : IsAnswer words bytes answer
-  pub part : GrewByPart saw.written_before saw.written_after (bytes_of answer.actions)
+  pub part : StandsWithin answer.actions saw.written_before saw.written_after
 
 -- the command wrote nothing
 abbrev pub WroteNothing : Seen → Type 0
@@ -81,27 +84,39 @@ pub data CommandEnds (words : List (List ℕ)) (fault : Fault) (saw : Seen) : Ty
 
 -- how many messages a command handled that ended well
 abbrev pub CommandHandles : Command → Option (List ℕ) → Option (List ℕ) → Bool → ℕ → Type 0
-CommandHandles Solo old new has_ended handled = (p : Parameters) × ReadParameters old new has_ended p × HandlesPlainly p handled
+CommandHandles Solo old new has_ended handled = (p : Parameters) × ReadParameters old new has_ended p × HandlesPlainly (whole p) handled
 CommandHandles Check old new has_ended handled = handled ≡ 0
 
--- the report of the run of parameters was written
-pub record RanWritten (p : Parameters) (limit : Option RunFault) (before after : Option (List ℕ)) : Type 0 where
-  pub built : unbuilt p ≡ None
+-- all was written that a run writes, up to a limit where one ends it
+pub record RanTo (c : Course) (limit : Option RunFault) (before after : Output) : Type 0 where
   pub state : RunState
-  pub ends : RunEnds p state limit
-  pub written : after ≡ append_known before (bytes_of (report p state limit))
+  pub ends : RunEnds c state limit
+  pub acted : after ≡ with_actions before (run_actions c.parameters state.told state.state.leaves limit)
 
--- the report was written in part
-pub record RanInPart (p : Parameters) (before after : Option (List ℕ)) : Type 0 where
-  pub built : unbuilt p ≡ None
+-- a beginning of it was written
+pub record RanInPart (c : Course) (before after : Output) : Type 0 where
   pub state : RunState
   pub limit : Option RunFault
-  pub ends : RunEnds p state limit
-  pub part : GrewByPart before after (bytes_of (report p state limit))
+  pub ends : RunEnds c state limit
+  pub part : StandsWithin (run_actions c.parameters state.told state.state.leaves limit) before after
 
--- why running parameters ends otherwise than well
-pub data RunningEnds (p : Parameters) (before after : Option (List ℕ)) (fault : Fault) : Type 0 where
-  running_unbuilt : unbuilt p ≡ Some fault → after ≡ before → RunningEnds p before after fault
-  running_limit : (limit : RunFault) → fault ≡ fault_of limit → RanWritten p (Some limit) before after → RunningEnds p before after fault
-  running_sink : fault ≡ WriteFault → RanInPart p before after → RunningEnds p before after fault
-  running_memory : fault ≡ Memory → RanInPart p before after → RunningEnds p before after fault
+-- all was written, and so many messages were handled
+pub record RanWhole (c : Course) (handled : ℕ) (before after : Output) : Type 0 where
+  pub ran : RanTo c None before after
+  pub plain : HandlesPlainly c handled
+
+-- why a run ends otherwise than well
+pub data RunningEnds (c : Course) (before after : Output) (fault : Fault) : Type 0 where
+  running_limit : (limit : RunFault) → fault ≡ fault_of limit → RanTo c (Some limit) before after → RunningEnds c before after fault
+  running_failed : fault ≡ WriteFault → RanInPart c before after → RunningEnds c before after fault
+  running_memory : fault ≡ Memory → RanInPart c before after → RunningEnds c before after fault
+
+-- What a step does to the count of a sink and to a shelf beside what it writes. No count of writing faults falls, and
+-- one rose where the step failed by a device; what was there before stays; and but for such a failure no file is being
+-- written.
+pub record TreatsDevices (before after : ℕ) (old new : ShelfTells) (failed : Type 0) : Type 0 where
+  pub sink_faults : before ≤ after
+  pub shelf_faults : old.write_faults ≤ new.write_faults
+  pub past : SamePast old new
+  pub cause : failed → Rose before after ⊎ Rose old.write_faults new.write_faults
+  pub idle : (failed → ⊥) → IsFalse new.is_writing

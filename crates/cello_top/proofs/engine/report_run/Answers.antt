@@ -1,12 +1,15 @@
 -- The first line, and then all works.
-use Rattle.cello_top.proofs.ReportSteps.{begin-part, begin-told}
+use Rattle.std.proofs.Common.{refl}
+use Rattle.cello_top.proofs.EngineSteps.{header-part, header-told}
 use Rattle.cello_top.proofs.engine.report_run.Goals as goal
 
-pub returns-in-Err-clause-ended : goal.returns-in-Err-clause-ended
-returns-in-Err-clause-ended g c = begin-part c.args.run _ _ c.requires.built c.requires.begins c.in-Err.ensures.wrote
+pub returns-in-Ok-clause-whole : goal.returns-in-Ok-clause-whole
+returns-in-Ok-clause-whole g c =
+    c.do_works.ensures.whole _ (header-told c.args.run c.requires.limits c.requires.stands c.requires.told _ _ c.requires.counted (c.in-Ok.ensures.acted _))
 
-pub returns-clause-whole : goal.returns-clause-whole
-returns-clause-whole g c = c.do_works.ensures.whole _ (begin-told c.args.run _ _ c.requires.begins c.in_default.ensures.wrote)
+pub returns-in-Ok-clause-ended : goal.returns-in-Ok-clause-ended
+returns-in-Ok-clause-ended g c =
+    c.do_works.ensures.ended _ (header-told c.args.run c.requires.limits c.requires.stands c.requires.told _ _ c.requires.counted (c.in-Ok.ensures.acted _))
 
 pub returns-clause-ended : goal.returns-clause-ended
-returns-clause-ended g c = c.do_works.ensures.ended _ (begin-told c.args.run _ _ c.requires.begins c.in_default.ensures.wrote)
+returns-clause-ended g c = header-part c.args.run c.requires.limits c.requires.stands c.requires.told _ _ _ refl (c.in-Err.ensures.acted _)

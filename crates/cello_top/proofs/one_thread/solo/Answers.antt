@@ -1,6 +1,6 @@
 -- Words outside the set, a command that ends well, and one that ends with a fault.
 use Rattle.std.proofs.Common.{Err, refl, ap}
-use Rattle.cello_top.proofs.Ends.{usage-answer, none-handled, done-answer, done-handled, done-handled_check, ends-answer, ends-part, ends-read, ends-complete, ends-complete_check}
+use Rattle.cello_top.proofs.Ends.{check-command, not-failed, usage-answer, none-handled, done-answer, done-handled, done-handled_check, ends-answer, ends-part, ends-read, ends-complete, ends-complete_check}
 use Rattle.cello_top.proofs.one_thread.solo.Goals as goal
 
 pub returns-in-None-clause-answer : goal.returns-in-None-clause-answer
@@ -36,10 +36,15 @@ returns-in-Err-clause-handled g c = none-handled _ _ c.refused-in-Err.result _ c
 
 pub returns-in-Err-clause-complete : goal.returns-in-Err-clause-complete
 returns-in-Err-clause-complete g c =
-    ends-complete _ _ _ _ _ _ c.in-Err.fault c.refused-in-Err.result c.refused-in-Err.ensures.fault _ _ (λ e. c.in-Err.ensures.read_cause (ap Err e))
-    (λ e. c.in-Err.ensures.write_cause (ap Err e)) (c.in-Err.ensures.ended _ c.in-Some.ensures.found)
+    ends-complete _ _ _ _ _ _ c.in-Err.fault c.refused-in-Err.result c.refused-in-Err.ensures.fault _ _ _ (λ e. c.in-Err.ensures.read_cause (ap Err e))
+    (λ e. c.in-Err.ensures.devices.cause (ap Err e)) (c.in-Err.ensures.ended _ c.in-Some.ensures.found)
 
 pub returns-in-Err-clause-complete_check : goal.returns-in-Err-clause-complete_check
 returns-in-Err-clause-complete_check g c =
     ends-complete_check _ _ _ _ _ _ c.in-Err.fault c.refused-in-Err.result c.refused-in-Err.ensures.fault _ _ (λ e. c.in-Err.ensures.read_cause (ap Err e))
-    (λ e. c.in-Err.ensures.write_cause (ap Err e)) (c.in-Err.ensures.ended _ c.in-Some.ensures.found)
+    (λ check e. c.in-Err.ensures.check_cause (check-command c.in-Some.command _ c.in-Some.ensures.found check) (ap Err e))
+    (c.in-Err.ensures.ended _ c.in-Some.ensures.found)
+
+pub returns-in-Err-clause-idle : goal.returns-in-Err-clause-idle
+returns-in-Err-clause-idle g c = λ well.
+    c.in-Err.ensures.devices.idle (not-failed c.in-Err.fault c.refused-in-Err.result (Err c.in-Err.fault) refl c.refused-in-Err.ensures.fault well)

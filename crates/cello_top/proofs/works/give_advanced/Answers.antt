@@ -1,0 +1,6 @@
+-- The blocks can be advanced.
+use Rattle.cello_top.proofs.BlockAdvances.{can-advance}
+use Rattle.cello_top.proofs.works.give_advanced.Goals as goal
+
+pub advance_blocks-requires : goal.advance_blocks-requires
+advance_blocks-requires c = record { can = can-advance c.args.run.now c.params.result.now c.args.blocks.items c.params.ensures.params c.requires.work }

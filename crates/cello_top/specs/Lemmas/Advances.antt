@@ -1,0 +1,34 @@
+-- Which blocks can be advanced, and how many of them are.
+use Rattle.std.specs.Prelude.{◌≡◌, ℕ, ◌<◌, ◌≤◌, ◌^◌, List, Some, length, slice_get}
+use Rattle.block_index.specs.Places.{IsInside}
+use Rattle.block_fields.specs.Blocks.{BlockState, IsBlock}
+use Rattle.params_check.specs.Parameters.{Parameters}
+use Rattle.advect.specs.FaceFluxes.{FaceFluxState, HoldsFluxes, IsFaceFluxes}
+use Rattle.advect.specs.Flows.{flow_of}
+use Rattle.advect.specs.OwnFluxes.{HoldsAtMost, IsProvisional, own_flux}
+
+-- a block of the sizes of the parameters, inside their domain, with amounts small enough for the fluxes
+pub record CanAdvance (p : Parameters) (b : BlockState) : Type 0 where
+  pub inside : IsInside p.grid b.place
+  pub edge : b.edge ≡ p.block
+  pub fields : length b.amounts ≡ length p.fields
+  pub small : HoldsAtMost (2 ^ 42) b
+
+-- what an advance made of a block, and the fluxes of its faces
+pub record IsAdvanced (p : Parameters) (b new : BlockState) (q : FaceFluxState) : Type 0 where
+  pub provisional : IsProvisional (own_flux (flow_of p) p.grid b) (flow_of p).goes_up b new
+  pub noted : HoldsFluxes (own_flux (flow_of p) p.grid b) q
+  pub velocity : q.velocity ≡ p.velocity
+  pub den : q.den ≡ p.den
+  pub faces : IsFaceFluxes q
+  pub edge : q.edge ≡ p.block
+  pub fields : q.fields ≡ length p.fields
+  pub block : IsBlock new
+
+-- the first blocks, so many, are advanced, and the others are as before
+pub record AdvancesUpTo (p : Parameters) (count : ℕ) (befores blocks : List BlockState) (faces : List FaceFluxState) : Type 0 where
+  pub one_each : length blocks ≡ length befores
+  pub counted : length faces ≡ count
+  pub ahead : (i : ℕ) → count ≤ i → slice_get blocks i ≡ slice_get befores i
+  pub each : (i : ℕ) (b new : BlockState) (q : FaceFluxState) → i < count → slice_get befores i ≡ Some b → slice_get blocks i ≡ Some new →
+      slice_get faces i ≡ Some q → IsAdvanced p b new q
