@@ -1,2 +1,4 @@
 -- Lemmas by subject.
 pub mod Roots
+pub mod Fitting
+pub mod SmallFields

@@ -3,7 +3,7 @@ ghost use Rattle.std.specs.Prelude.{◌≡◌, IfOk};
 ghost use Rattle.split_join.specs.Applying.{AreBlocksOfSet, IsNextMesh};
 
 use crate::fault::Fault;
-use crate::inputs::{Grid, next_set, parameters, roots};
+use crate::inputs::{Grid, moved, next_set, parameters, roots};
 use crate::stopwatch::{Best, RUNS};
 use block_fields::Block;
 use block_index::Wish;
@@ -38,10 +38,8 @@ fn split(alloc: Global, grid: Grid) -> Result<Grid, Memory>
     requires blocks { AreBlocksOfSet grid.set grid.blocks.items }
     ensures blocks { IfOk result (λ grid. AreBlocksOfSet grid.set grid.blocks.items) }
 {
-    let Grid { set, blocks } = grid;
-    let next = next_set(alloc, &set, Wish::Refine)?;
-    let blocks = apply(alloc, blocks, &set, &next)?;
-    Ok(Grid { set: next, blocks })
+    let next = next_set(alloc, &grid.set, Wish::Refine)?;
+    moved(alloc, grid, next)
 }
 
 /// The wish of each leaf for a change.
@@ -75,7 +73,8 @@ fn amounts_of(blocks: &[Block]) -> u64 {
     count
 }
 
-/// How long a change and a copy of what it gives took, and how many amounts these were.
+/// How long a change and a copy of the amounts that change hands took, which are the old or the new ones, whichever are
+/// more; and how many these were.
 #[derive(Clone, Copy, Drop)]
 struct Times {
     applied: Duration,
@@ -92,22 +91,28 @@ fn changed(alloc: Global, grid: Grid, next: &LeafSet) -> Result<Vec<Block>, Memo
     apply(alloc, blocks, &set, next)
 }
 
-/// Changes the blocks of a grid once, and copies the new ones.
+/// Changes the blocks of a grid once, and copies the old and the new ones.
 fn times_of(rt: &HostRuntime, grid: Grid, wish: Wish) -> Result<Times, Fault>
     requires blocks { AreBlocksOfSet grid.set grid.blocks.items }
 {
     let next = next_set(rt.alloc(), &grid.set, wish)?;
     let start = Instant::now(rt)?;
+    let copies = copied(rt.alloc(), &grid.blocks)?;
+    let before = start.elapsed(rt)?;
+    let old = amounts_of(&grid.blocks);
+    drop(copies);
+    let start = Instant::now(rt)?;
     let blocks = changed(rt.alloc(), grid, &next)?;
     let applied = start.elapsed(rt)?;
     let start = Instant::now(rt)?;
     let copies = copied(rt.alloc(), &blocks)?;
-    let copied = start.elapsed(rt)?;
+    let after = start.elapsed(rt)?;
     drop(copies);
+    let new = amounts_of(&blocks);
     Ok(Times {
         applied,
-        copied,
-        amounts: amounts_of(&blocks),
+        copied: if old > new { before } else { after },
+        amounts: old.max(new),
     })
 }
 
@@ -135,6 +140,11 @@ pub fn bench_apply(
         amounts = times.amounts;
     }
     applied.tell(rt, "apply", amounts, "amounts")?;
-    copied.tell(rt, "a copy of the new amounts", amounts, "amounts")?;
+    copied.tell(
+        rt,
+        "a copy of the amounts that change hands",
+        amounts,
+        "amounts",
+    )?;
     applied.compare(rt, "apply to a copy", copied)
 }

@@ -6,17 +6,25 @@
 #![tactic(auto)]
 
 mod adapting;
+mod advancing;
 mod applying;
 mod fault;
 mod filling;
+mod ghost_times;
+mod ghosts;
 mod inputs;
+mod refreshing;
+mod small_blocks;
 mod stopwatch;
 mod writing;
 
 use adapting::bench_adapt;
+use advancing::bench_advance;
 use applying::{Change, bench_apply};
 use fault::Fault;
 use filling::bench_fill;
+use ghost_times::bench_ghosts;
+use refreshing::bench_refresh;
 use std::env;
 use std::process::ExitCode;
 use writing::bench_write_fields;
@@ -38,19 +46,56 @@ fn number(words: &[String], at: usize) -> Result<u64, Fault> {
     }
 }
 
-/// Measures the operation of a name.
-fn bench(rt: &HostRuntime, name: &str, words: &[String]) -> Result<(), Fault> {
-    let trees = number(words, 1)?;
-    let block = number(words, 2)?;
-    let fields = number(words, 3)?;
+/// How large an input is.
+#[derive(Debug, Clone, Copy)]
+struct Sizes {
+    trees: u64,
+    block: u64,
+    fields: u64,
+}
+
+/// The sizes that stand behind the name.
+fn read_sizes(words: &[String]) -> Result<Sizes, Fault> {
+    Ok(Sizes {
+        trees: number(words, 1)?,
+        block: number(words, 2)?,
+        fields: number(words, 3)?,
+    })
+}
+
+/// Measures an operation over blocks.
+fn bench_blocks(rt: &HostRuntime, name: &str, sizes: Sizes) -> Result<(), Fault> {
+    let Sizes {
+        trees,
+        block,
+        fields,
+    } = sizes;
     match name {
         "fill" => bench_fill(rt, trees, block, fields),
-        "adapt" => bench_adapt(rt, trees, block),
         "stay" => bench_apply(rt, Change::Stay, trees, block, fields),
         "split" => bench_apply(rt, Change::Split, trees, block, fields),
         "join" => bench_apply(rt, Change::Join, trees, block, fields),
+        "advance" => bench_advance(rt, true, trees, block),
+        "advance_x" => bench_advance(rt, false, trees, block),
         "write_fields" => bench_write_fields(rt, trees, block, fields),
         _ => Err(Fault::Words),
+    }
+}
+
+/// Measures an operation over blocks that send each other messages.
+fn bench_messages(rt: &HostRuntime, name: &str, sizes: Sizes) -> Result<(), Fault> {
+    let Sizes {
+        trees,
+        block,
+        fields,
+    } = sizes;
+    match name {
+        "adapt" => bench_adapt(rt, trees, block),
+        "ghosts" => bench_ghosts(rt, false, trees, block, fields),
+        "refined_ghosts" => bench_ghosts(rt, true, trees, block, fields),
+        "refresh" => bench_refresh(rt, false, trees, block, fields),
+        "refined_refresh" => bench_refresh(rt, true, trees, block, fields),
+        _ => bench_blocks(rt, name, sizes),
     }
 }
 
@@ -58,7 +103,7 @@ fn bench(rt: &HostRuntime, name: &str, words: &[String]) -> Result<(), Fault> {
 fn run(rt: &HostRuntime) -> Result<(), Fault> {
     let words = words(rt)?;
     match words.first() {
-        Some(name) => bench(rt, name.as_str(), &words),
+        Some(name) => bench_messages(rt, name.as_str(), read_sizes(&words)?),
         None => Ok(()),
     }
 }

@@ -12,10 +12,12 @@ use cello_io::{Failed, Sink};
 use mesh_output::write_fields;
 use std::time::{Duration, Instant};
 
-/// A sink that takes every piece, keeps none, and counts their bytes.
+/// A sink that takes every piece, keeps none, counts their bytes, and looks at each word of them, so that what is
+/// written must be made.
 #[derive(Drop)]
 struct CountingSink {
     bytes: u64,
+    mixed: u8,
 }
 
 impl Sink for CountingSink {
@@ -29,6 +31,9 @@ impl Sink for CountingSink {
 
     fn write_piece(&mut self, piece: &[u8]) -> Result<usize, Failed> {
         self.bytes = self.bytes.wrapping_add(piece.len() as u64);
+        for byte in piece {
+            self.mixed ^= *byte;
+        }
         Ok(piece.len())
     }
 }
@@ -48,21 +53,22 @@ fn copy_amounts(blocks: &[Block], target: &mut [u64]) {
     }
 }
 
-/// Writes the fields of a grid once, and tells how many bytes these are.
-fn write_once(grid: &Grid) -> Result<u64, Failed>
+/// Writes the fields of a grid once, and tells how many bytes these are, and all of them mixed.
+fn write_once(grid: &Grid) -> Result<(u64, u8), Failed>
     requires blocks { AreBlocksOfSet grid.now.set grid.now.blocks.items }
 {
-    let mut sink = CountingSink { bytes: 0 };
+    let mut sink = CountingSink { bytes: 0, mixed: 0 };
     write_fields(0, &grid.set, &grid.blocks, &mut sink)?;
-    Ok(sink.bytes)
+    Ok((sink.bytes, sink.mixed))
 }
 
-/// How long writing and a copy took, and how many bytes these were.
+/// How long writing and a copy took, and how many bytes these were, and all of them mixed.
 #[derive(Clone, Copy, Drop)]
 struct Times {
     written: Duration,
     copied: Duration,
     bytes: u64,
+    mixed: u8,
 }
 
 /// Writes the fields of a grid, and copies them.
@@ -70,7 +76,7 @@ fn times_of(rt: &HostRuntime, grid: &Grid) -> Result<Times, Fault>
     requires blocks { AreBlocksOfSet grid.now.set grid.now.blocks.items }
 {
     let start = Instant::now(rt)?;
-    let bytes = write_once(grid)?;
+    let (bytes, mixed) = write_once(grid)?;
     let written = start.elapsed(rt)?;
     let mut target = vec![in rt.alloc(); 1u64; (bytes / 8) as usize]?;
     let start = Instant::now(rt)?;
@@ -80,6 +86,7 @@ fn times_of(rt: &HostRuntime, grid: &Grid) -> Result<Times, Fault>
         written,
         copied,
         bytes,
+        mixed,
     })
 }
 
@@ -95,13 +102,16 @@ pub fn bench_write_fields(
     let mut written = Best::new();
     let mut copied = Best::new();
     let mut bytes = 0;
+    let mut mixed = 0;
     for _ in 0..RUNS {
         let grid = roots(rt.alloc(), &params)?;
         let times = times_of(rt, &grid)?;
         written.note(times.written);
         copied.note(times.copied);
         bytes = times.bytes;
+        mixed ^= times.mixed;
     }
+    println!(rt; "all bytes mixed: {mixed}")?;
     written.tell(rt, "write_fields", bytes, "bytes")?;
     copied.tell(rt, "a copy of as much", bytes, "bytes")?;
     written.compare(rt, "write_fields to a copy", copied)

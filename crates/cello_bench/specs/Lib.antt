@@ -1,0 +1,2 @@
+-- What the inputs of a measurement are.
+pub mod Inputs
