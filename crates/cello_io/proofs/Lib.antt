@@ -4,3 +4,4 @@ pub mod MadeFiles
 pub mod MemoryTells
 pub mod ReadLemmas
 pub mod WriteLemmas
+pub mod FetchedFronts

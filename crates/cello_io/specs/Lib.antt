@@ -2,6 +2,7 @@
 pub mod Counts
 pub mod Devices
 pub mod Files
+pub mod Fetching
 pub mod Filing
 pub mod Reads
 pub mod StoredFiles

@@ -2,12 +2,13 @@
 //!
 //! Each trait says what its calls do to what the object tells, and counts the object's faults: an answer `Failed`
 //! comes only where the count rose in that call. `specs/` has the words: `Counts`, `Reads`, `Writes`, `Files`, `Filing`
-//! for how far one file came, `StoredFiles` and `Devices` for those in memory. The devices in memory fail at the calls
-//! that they are told to; those of the system tell no bytes.
+//! for how far one file came, `Fetching` for a whole file that is fetched, `StoredFiles` and `Devices` for those in
+//! memory. The devices in memory fail at the calls that they are told to; those of the system tell no bytes.
 #![tactic(auto)]
 
 mod copying;
 mod failed;
+mod fetching;
 mod files;
 mod folder_shelf;
 mod gate;
@@ -23,6 +24,7 @@ mod standard;
 mod writing;
 
 pub use failed::{Failed, FetchFault};
+pub use fetching::{FetchError, fetch_all};
 pub use files::{Bytes, Files, StoredFile, WrittenFile};
 pub use folder_shelf::FolderShelf;
 pub use gate::{Gate, OpenGate};

@@ -2,6 +2,8 @@
 #![tactic(auto)]
 
 #[cfg(test)]
+mod fetching;
+#[cfg(test)]
 mod files;
 #[cfg(test)]
 mod folders;

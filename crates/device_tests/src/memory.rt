@@ -15,8 +15,15 @@ const MESH: &[u8] = b"mesh 1\n0 0 0 0\n";
 fn shelf_of(alloc: Global, room: usize, fails: &[u32]) -> Option<MemoryShelf>
     ensures idle { IfSome result (λ shelf. IsFalse (⟦<MemoryShelf as Shelf>⟧.tells shelf).is_writing) }
 {
+    shelf_with(alloc, b"abcdef".to_vec(alloc).ok()?, room, fails)
+}
+
+/// A shelf with one past file of these bytes.
+pub fn shelf_with(alloc: Global, bytes: Vec<u8>, room: usize, fails: &[u32]) -> Option<MemoryShelf>
+    ensures idle { IfSome result (λ shelf. IsFalse (⟦<MemoryShelf as Shelf>⟧.tells shelf).is_writing) }
+{
     let name = Name::of(b"past")?;
-    let bytes = Bytes::of(b"abcdef".to_vec(alloc).ok()?);
+    let bytes = Bytes::of(bytes);
     let past = Files::of(Vec::from_array(alloc, [StoredFile { name, bytes }]).ok()?);
     MemoryShelf::new(alloc, past, room, fails.to_vec(alloc).ok()?).ok()
 }
