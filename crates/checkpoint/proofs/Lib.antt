@@ -1,5 +1,4 @@
 -- Lemmas by subject.
-pub mod WritesLeft
 pub mod Amounts
 pub mod Texts
 pub mod WordLists
@@ -9,3 +8,13 @@ pub mod Stages
 pub mod StageParts
 pub mod FaultKinds
 pub mod OneState
+pub mod PartOrder
+pub mod PartFacts
+pub mod Fronts
+pub mod OnePartFault
+pub mod OneReading
+pub mod FirstCases
+pub mod LeafCases
+pub mod NumberCases
+pub mod WordCases
+pub mod EachReads

@@ -80,13 +80,13 @@ length-joined k (x ∷ xs) h =
     omega (arith, here, rest, all, more, many)
 
 -- for each field, so many amounts
-abbrev IsShaped : ℕ → ℕ → List (List ℕ) → Type 0
+abbrev pub IsShaped : ℕ → ℕ → List (List ℕ) → Type 0
 IsShaped fields k block = (length block ≡ fields) × All (λ l. length l ≡ k) block
 
 length-block : (fields k : ℕ) (block : List (List ℕ)) → IsShaped fields k block → length (flat_map (λ l. l) block) ≡ fields * k
 length-block fields k block h = length-joined k block h.1 ∙ ap (λ (n : ℕ). n * k) h.0
 
-length-blocks : (fields k : ℕ) (blocks : List (List (List ℕ))) → All (IsShaped fields k) blocks → length (all_amounts blocks) ≡ length blocks * (fields * k)
+pub length-blocks : (fields k : ℕ) (blocks : List (List (List ℕ))) → All (IsShaped fields k) blocks → length (all_amounts blocks) ≡ length blocks * (fields * k)
 length-blocks fields k [] h = omega arith
 length-blocks fields k (x ∷ xs) h =
     let here = length-block fields k x (All-head (IsShaped fields k) x xs h) in
@@ -97,7 +97,7 @@ length-blocks fields k (x ∷ xs) h =
     omega (arith, here, rest, all, more, many)
 
 -- the amounts of blocks of one shape are told by what they are joined to
-same-blocks : (fields k : ℕ) (xs ys : List (List (List ℕ))) → length xs ≡ length ys → All (IsShaped fields k) xs → All (IsShaped fields k) ys → all_amounts xs ≡ all_amounts ys → xs ≡ ys
+pub same-blocks : (fields k : ℕ) (xs ys : List (List (List ℕ))) → length xs ≡ length ys → All (IsShaped fields k) xs → All (IsShaped fields k) ys → all_amounts xs ≡ all_amounts ys → xs ≡ ys
 same-blocks fields k [] [] long hx hy e = refl
 same-blocks fields k [] (y ∷ ys) long hx hy e = absurd (omega (arith, long))
 same-blocks fields k (x ∷ xs) [] long hx hy e = absurd (omega (arith, long))
@@ -111,7 +111,7 @@ same-blocks fields k (x ∷ xs) (y ∷ ys) long hx hy e =
     λ i. here i ∷ rest i
 
 -- places are told by their words
-same-places : (one : (a c : Cube) → IsPlace a → IsPlace c → packed a ≡ packed c → a ≡ c) (xs ys : List Cube) → All IsPlace xs → All IsPlace ys → map packed xs ≡ map packed ys → xs ≡ ys
+pub same-places : (one : (a c : Cube) → IsPlace a → IsPlace c → packed a ≡ packed c → a ≡ c) (xs ys : List Cube) → All IsPlace xs → All IsPlace ys → map packed xs ≡ map packed ys → xs ≡ ys
 same-places one [] [] hx hy e = refl
 same-places one [] (y ∷ ys) hx hy e = let l : 0 ≡ length (map packed ys) + 1 = ap length e ∙ omega arith in absurd (omega (arith, l))
 same-places one (x ∷ xs) [] hx hy e = let l : length (map packed xs) + 1 ≡ 0 = omega arith ∙ ap length e in absurd (omega (arith, l))
@@ -120,13 +120,13 @@ same-places one (x ∷ xs) (y ∷ ys) hx hy e =
     let rest : xs ≡ ys = same-places one xs ys (All-tail IsPlace x xs hx) (All-tail IsPlace y ys hy) (ap (drop 1) e) in
     λ i. here i ∷ rest i
 
-places-fit : (xs : List Cube) → All IsPlace xs → FitWords (map packed xs)
+pub places-fit : (xs : List Cube) → All IsPlace xs → FitWords (map packed xs)
 places-fit xs h = All-map (λ n. n < 2 ^ 64) packed xs (All-weaker IsPlace (λ c. packed c < 2 ^ 64) (λ c p. packed-fits c p) xs h)
 
-are-places : (t : Tiling) → IsTiling t → All IsPlace t.places
+pub are-places : (t : Tiling) → IsTiling t → All IsPlace t.places
 are-places t h = λ i d l. IsPlace-IsInside t.grid (slice_index_or t.places i d) h.domain (h.mesh.inside i (slice_index_or t.places i d) (slice_get-get_or t.places i d l))
 
-are-shaped : (s : State) → IsState s → All (IsShaped s.fields (s.edge * s.edge * s.edge)) s.amounts
+pub are-shaped : (s : State) → IsState s → All (IsShaped s.fields (s.edge * s.edge * s.edge)) s.amounts
 are-shaped s h = λ i d l.
     let block = slice_index_or s.amounts i d in
     let at = slice_get-get_or s.amounts i d l in

@@ -1,8 +1,10 @@
 //! Laws about what the bytes of a file stand for.
-ghost use Rattle.std.specs.Prelude.{◌≡◌, ℕ, List, Ok};
+ghost use Rattle.std.specs.Prelude.{◌≡◌, ℕ, ◌<◌, All, List, Ok};
+ghost use Rattle.std.specs.declared.result.Result.{Result};
 ghost use Rattle.checkpoint.specs.Reading.{IsCheckpoint, ReadsAs};
 ghost use Rattle.checkpoint.specs.SavedStates.{SavedState};
 ghost use Rattle.checkpoint.specs.Spelling.{bytes_of};
+ghost use Rattle.checkpoint.specs.declared.fault.CheckFault.{CheckFault};
 
 use block_index::packing_is_one_to_one;
 
@@ -20,3 +22,15 @@ pub fn one_state()
 {
     packing_is_one_to_one();
 }
+
+/// What the bytes of a file stand for is one: one state, or one fault.
+pub fn one_reading()
+    ensures one { (bytes : List ℕ) (r q : Result SavedState CheckFault) → ReadsAs bytes r → ReadsAs bytes q → r ≡ q }
+{
+    packing_is_one_to_one();
+}
+
+/// All bytes stand for something.
+pub fn each_file_reads()
+    ensures exists { (bytes : List ℕ) → All (λ b. b < 256) bytes → (r : Result SavedState CheckFault) × ReadsAs bytes r }
+{}

@@ -10,7 +10,7 @@ use Rattle.cello_io.proofs.WriteLemmas.{append_known-nil, grew_less, grew_then, 
 use Rattle.block_index.specs.Places.{Cube}
 use Rattle.text_line.specs.Shown.{shown_place}
 use Rattle.mesh_output.specs.Lines.{count_line, leaf_line, mesh_text}
-use Rattle.mesh_output.specs.Lemmas.Pages.{Holds}
+use Rattle.mesh_output.specs.Pages.{Holds}
 
 -- a result that is an error comes where a part was written
 pub Wrote-from_err : {T E : Type 0} (Q : E → Type 0) (old new : Option (List ℕ)) (bytes : List ℕ) (r : Result T E) → IsErrAnd r Q → GrewByPart old new bytes → Wrote old new r bytes

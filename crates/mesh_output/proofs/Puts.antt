@@ -1,9 +1,9 @@
 -- Bytes that are put on a page, of which others are still to come.
-use Rattle.std.proofs.Common.{◌≡◌, ℕ, List, [], ◌++◌, Option, Result, Ok, Err, sym, ap, subst, ◌∙◌, append_assoc, append-nil}
+use Rattle.std.proofs.Common.{◌≡◌, ℕ, List, [], ◌++◌, take, drop, Option, Result, Ok, Err, sym, ap, subst, ◌∙◌, append_assoc, append-nil, take-append-drop}
 use Rattle.std.specs.Prelude.{IsErrAnd}
 use Rattle.cello_io.specs.Writes.{GrewByPart}
 use Rattle.cello_io.proofs.WriteLemmas.{grew_within, written_then}
-use Rattle.mesh_output.specs.Lemmas.Pages.{Holds, Puts}
+use Rattle.mesh_output.specs.Pages.{Holds, Puts}
 
 -- a result that is an error comes where a part was written
 pub Puts-from_err : {T E : Type 0} (Q : E → Type 0) (old new : Option (List ℕ)) (before now more : List ℕ) (r : Result T E) → IsErrAnd r Q → GrewByPart old new (before ++ more) → Puts old new before now r more
@@ -34,3 +34,7 @@ Holds-failed old mid new all before left next rest are h some =
 -- nothing is left any more
 pub Holds-end : (old new : Option (List ℕ)) (all now left : List ℕ) → left ≡ [] → Holds old new all (now ++ left) → Holds old new all now
 Holds-end old new all now left none h = subst (Holds old new all) (ap (λ (l : List ℕ). now ++ l) none ∙ append-nil now) h
+
+-- the first of some bytes, and those after them
+pub some_front : (k : ℕ) (left few more : List ℕ) → few ≡ take k left → more ≡ drop k left → left ≡ few ++ more
+some_front k left few more is_few is_more = rw (is_few, is_more) (sym (take-append-drop k left))

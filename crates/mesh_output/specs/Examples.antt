@@ -1,5 +1,5 @@
 -- The bytes of small files of fields, worked out by hand.
-use Rattle.std.specs.Prelude.{◌≡◌, ℕ, ◌+◌, false, List, [], ◌∷◌, ◌++◌, length, refl, replicate}
+use Rattle.std.specs.Prelude.{◌≡◌, ℕ, false, List, [], ◌∷◌, ◌++◌, length, refl, replicate}
 use Rattle.block_index.specs.Places.{Cube, Grid}
 use Rattle.block_fields.specs.States.{State}
 use Rattle.block_fields.specs.Samples.{adapted}

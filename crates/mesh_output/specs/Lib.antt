@@ -1,6 +1,6 @@
--- What contracts of the output cite. `Lemmas` is for the proofs alone.
+-- What contracts of the output cite.
 pub mod Lines
 pub mod FieldFiles
+pub mod Pages
 pub mod Pens
 pub mod Examples
-pub mod Lemmas

@@ -7,6 +7,10 @@ use Rattle.text_line.specs.Shown.{shown_place}
 unfoldable pub header_line : List ℕ
 header_line = codes "cello report 1\n"
 
+-- the second line of a run that goes on: the cycle after which it does, and the number of leaves then
+unfoldable pub restart_line : ℕ → ℕ → List ℕ
+restart_line cycle leaves = codes "restart cycle " ++ decimal cycle ++ codes " leaves " ++ decimal leaves ++ codes "\n"
+
 -- after an adapt phase: its number and the new number of leaves
 unfoldable pub phase_line : ℕ → ℕ → List ℕ
 phase_line phase leaves = codes "phase " ++ decimal phase ++ codes " leaves " ++ decimal leaves ++ codes "\n"

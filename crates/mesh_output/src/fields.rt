@@ -1,5 +1,5 @@
 //! The file of a mesh's fields.
-ghost use Rattle.std.specs.Prelude.{◌≡◌, ℕ, [], ◌∷◌, ◌≤◌, length, IsFalse};
+ghost use Rattle.std.specs.Prelude.{◌≡◌, ℕ, [], ◌∷◌, IsFalse};
 ghost use Rattle.std.specs.Int.{bytes_high_first};
 ghost use Rattle.std.specs.List.{flat_map};
 ghost use Rattle.block_fields.specs.Blocks.{IsBlock};
@@ -8,20 +8,16 @@ ghost use Rattle.cello_io.specs.Counts.{HasCause};
 ghost use Rattle.cello_io.specs.Filing.{WritesFile};
 ghost use Rattle.cello_io.specs.Writes.{Wrote};
 ghost use Rattle.mesh_output.specs.FieldFiles.{field_bytes, leaf_numbers};
-ghost use Rattle.mesh_output.specs.Lemmas.Pages.{Puts};
+ghost use Rattle.mesh_output.specs.Pages.{Puts};
 
 use crate::Pen;
-use crate::page::{Page, make_room};
+use crate::numbers::{put_few, put_numbers};
+use crate::page::Page;
 use block_fields::Block;
 use byteorder::{BigEndian, ByteOrder};
 use cello_io::{Failed, Shelf, Sink, write_all};
 use cello_num::Name;
 use leaf_set::LeafSet;
-
-/// The most numbers that are put on a page at once, and how many bytes these are.
-const FEW: usize = 16;
-
-const FEW_BYTES: usize = 128;
 
 /// Writes the fields of blocks, which are those of the set's leaves in order, all of one size.
 pub fn write_fields<K: Sink>(
@@ -85,37 +81,7 @@ fn put_leaf<K: Sink>(block: &Block, page: &mut Page, sink: &mut K) -> Result<(),
 {
     put_few(&[block.place().pack()], page, sink)?;
     for field in 0..block.fields() {
-        put_all(block.field(field), page, sink)?;
+        put_numbers(block.field(field), page, sink)?;
     }
-    Ok(())
-}
-
-/// Numbers, a few at a time.
-fn put_all<K: Sink>(numbers: &[u64], page: &mut Page, sink: &mut K) -> Result<(), Failed>
-    ensures puts { Puts (K.written sink.old) (K.written sink.new) page.old page.new result (flat_map (bytes_high_first 8) numbers.now) }
-    ensures same_rest { K.rest sink.new ≡ K.rest sink.old }
-    ensures cause { HasCause (K.write_faults sink.old) (K.write_faults sink.new) result }
-{
-    let mut left = numbers;
-    while !left.is_empty() {
-        let (few, more) = left.split_at(left.len().min(FEW));
-        put_few(few, page, sink)?;
-        left = more;
-    }
-    Ok(())
-}
-
-/// A few numbers, with room made for them.
-fn put_few<K: Sink>(numbers: &[u64], page: &mut Page, sink: &mut K) -> Result<(), Failed>
-    requires few { length numbers.now ≤ 16 }
-    ensures puts { Puts (K.written sink.old) (K.written sink.new) page.old page.new result (flat_map (bytes_high_first 8) numbers.now) }
-    ensures same_rest { K.rest sink.new ≡ K.rest sink.old }
-    ensures cause { HasCause (K.write_faults sink.old) (K.write_faults sink.new) result }
-{
-    make_room(page, sink)?;
-    let mut bytes = [0u8; FEW_BYTES];
-    let filled = &mut bytes[..8 * numbers.len()];
-    BigEndian::write_u64_into(numbers, filled);
-    page.push(filled);
     Ok(())
 }

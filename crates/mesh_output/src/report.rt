@@ -2,7 +2,7 @@
 ghost use Rattle.std.specs.Prelude.{◌≡◌, ◌≤◌, ◌++◌, length, codes, decimal};
 ghost use Rattle.cello_io.specs.Counts.{HasCause};
 ghost use Rattle.cello_io.specs.Writes.{Wrote};
-ghost use Rattle.mesh_output.specs.Lines.{header_line, phase_line, cycle_line, field_line, end_line};
+ghost use Rattle.mesh_output.specs.Lines.{header_line, restart_line, phase_line, cycle_line, field_line, end_line};
 
 use cello_io::{Failed, Sink, write_all};
 use cello_num::Name;
@@ -29,6 +29,16 @@ fn leaves_after(step: &[u8], number: u32, leaves: u32) -> Line
     line.push_number(leaves);
     line.push(b"\n");
     line
+}
+
+/// Writes the second line of a run that goes on: the cycle after which it does, and the number of leaves then.
+#[tactic(auto, unfolding(crate::specs::Lines::restart_line))]
+pub fn write_restart_line<K: Sink>(cycle: u32, leaves: u32, sink: &mut K) -> Result<(), Failed>
+    ensures wrote { Wrote (K.written sink.old) (K.written sink.new) result (restart_line cycle leaves) }
+    ensures same_rest { K.rest sink.new ≡ K.rest sink.old }
+    ensures cause { HasCause (K.write_faults sink.old) (K.write_faults sink.new) result }
+{
+    write_all(sink, leaves_after(b"restart cycle ", cycle, leaves).bytes())
 }
 
 /// Writes the line of an adapt phase: its number, and the number of leaves after it.

@@ -27,15 +27,15 @@ loop-field-init g c =
       no_fall = omega (arith, c.in_ok-put_few.ensures.cause);
     }
 
-pub returns-in_err-put_all-clause-puts : goal.returns-in_err-put_all-clause-puts
-returns-in_err-put_all-clause-puts g c =
+pub returns-in_err-put_numbers-clause-puts : goal.returns-in_err-put_numbers-clause-puts
+returns-in_err-put_numbers-clause-puts g c =
     let b = c.args.block.now in
     let f = c.loop-field.field in
     let q = c.field.result.now in
-    Puts-from_err _ _ _ c.args.page.now c.put_all.new.page (block_bytes b) c.from_residual-in_err-put_all.result c.from_residual-in_err-put_all.ensures.1
+    Puts-from_err _ _ _ c.args.page.now c.put_numbers.new.page (block_bytes b) c.from_residual-in_err-put_numbers.result c.from_residual-in_err-put_numbers.ensures.1
     (Holds-failed _ _ _ _ c.loop-field.page (fields_bytes (drop f b.amounts)) (numbers_bytes q) (fields_bytes (drop (f + 1) b.amounts))
     (fields_bytes-next b.amounts f q (omega (arith, c.loop-field-test.true, c.fields-field-end.ensures.fields)) c.field.ensures.amounts)
-    c.loop-field.invariant.holds c.in_err-put_all.ensures.puts)
+    c.loop-field.invariant.holds c.in_err-put_numbers.ensures.puts)
 
 pub loop-field-preserved : goal.loop-field-preserved
 loop-field-preserved g c =
@@ -43,9 +43,9 @@ loop-field-preserved g c =
     let f = c.loop-field.field in
     let q = c.field.result.now in
     record {
-      holds = Holds-put _ _ _ _ c.loop-field.page (fields_bytes (drop f b.amounts)) (numbers_bytes q) (fields_bytes (drop (f + 1) b.amounts)) c.put_all.new.page
+      holds = Holds-put _ _ _ _ c.loop-field.page (fields_bytes (drop f b.amounts)) (numbers_bytes q) (fields_bytes (drop (f + 1) b.amounts)) c.put_numbers.new.page
           (fields_bytes-next b.amounts f q (omega (arith, c.loop-field-test.true, c.fields-field-end.ensures.fields)) c.field.ensures.amounts)
-          c.loop-field.invariant.holds c.in_ok-put_all.ensures.puts;
-      same_rest = c.in_ok-put_all.ensures.same_rest ∙ c.loop-field.invariant.same_rest;
-      no_fall = omega (arith, c.in_ok-put_all.ensures.cause, c.loop-field.invariant.no_fall);
+          c.loop-field.invariant.holds c.in_ok-put_numbers.ensures.puts;
+      same_rest = c.in_ok-put_numbers.ensures.same_rest ∙ c.loop-field.invariant.same_rest;
+      no_fall = omega (arith, c.in_ok-put_numbers.ensures.cause, c.loop-field.invariant.no_fall);
     }

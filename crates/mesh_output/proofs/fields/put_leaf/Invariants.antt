@@ -1,6 +1,6 @@
 -- The loop over the fields of a leaf.
 use Rattle.std.proofs.Common.{◌≡◌, ◌≤◌, ◌++◌, drop}
-use Rattle.mesh_output.specs.Lemmas.Pages.{Holds}
+use Rattle.mesh_output.specs.Pages.{Holds}
 use Rattle.mesh_output.proofs.FieldFiles.{block_bytes, fields_bytes}
 use Rattle.mesh_output.proofs.fields.put_leaf.Given as goal
 

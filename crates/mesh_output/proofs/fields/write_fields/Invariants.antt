@@ -1,6 +1,6 @@
 -- The loop over the blocks.
 use Rattle.std.proofs.Common.{◌≡◌, ◌≤◌, ◌++◌, drop}
-use Rattle.mesh_output.specs.Lemmas.Pages.{Holds}
+use Rattle.mesh_output.specs.Pages.{Holds}
 use Rattle.mesh_output.proofs.FieldFiles.{blocks_bytes}
 use Rattle.mesh_output.proofs.fields.write_fields.Given as goal
 

@@ -1,6 +1,6 @@
 -- The loop over the leaves of a mesh.
 use Rattle.std.proofs.Common.{◌≡◌, ◌≤◌}
-use Rattle.mesh_output.specs.Lemmas.Pages.{Holds}
+use Rattle.mesh_output.specs.Pages.{Holds}
 use Rattle.mesh_output.proofs.Pages.{mesh_front}
 use Rattle.mesh_output.proofs.mesh.write_mesh.Given as goal
 

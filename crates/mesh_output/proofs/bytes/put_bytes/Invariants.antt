@@ -1,0 +1,14 @@
+-- The loop over the bytes that are left.
+use Rattle.std.proofs.Common.{◌≡◌, ◌≤◌, ◌++◌, length}
+use Rattle.mesh_output.specs.Pages.{Holds}
+use Rattle.mesh_output.proofs.bytes.put_bytes.Given as goal
+
+abbrev pub invariant-loop-left : goal.invariant-loop-left
+invariant-loop-left g l = record {
+  holds : Holds (g.K.Sink.written l.fn.sink) (g.K.Sink.written l.sink) (l.fn.page ++ l.fn.bytes) (l.page ++ l.left);
+  same_rest : g.K.Sink.rest l.sink ≡ g.K.Sink.rest l.fn.sink;
+  no_fall : g.K.Sink.write_faults l.fn.sink ≤ g.K.Sink.write_faults l.sink;
+}
+
+abbrev pub decreases-loop-left : goal.decreases-loop-left
+decreases-loop-left g l = length l.left

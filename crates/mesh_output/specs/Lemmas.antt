@@ -1,2 +1,0 @@
--- Definitions on which no public contract rests.
-pub mod Pages
