@@ -31,3 +31,4 @@ pub mod Directions
 pub mod OwedSteps
 pub mod OwedPieces
 pub mod SizedPieces
+pub mod FlatLists

@@ -6,6 +6,8 @@ ghost use Rattle.ghost_pieces.specs.Boxes.{reached_part};
 ghost use Rattle.ghost_pieces.specs.Sent.{offset_of};
 ghost use Rattle.ghost_pieces.specs.Lemmas.Parts.{runs};
 
+use crate::counts::depth_where;
+
 /// Along an axis the part of a region: the first local coordinate, how many there are, where the first lies in the
 /// sender's block, and whether the others go on from there or stay.
 #[derive(Debug, Clone, Copy)]
@@ -89,7 +91,7 @@ pub(crate) fn part_along(
             let reached = reached_before(n, depth, side);
             Part {
                 first: 0,
-                count: if reached / span == from { depth } else { 0 },
+                count: depth_where(depth, reached, span, from),
                 start: reached.saturating_sub(from * span),
                 runs: side.wraps || side.at > 0,
             }
@@ -99,7 +101,7 @@ pub(crate) fn part_along(
             let reached = reached_after(n, depth, side);
             Part {
                 first: n + depth,
-                count: if reached / span == from { depth } else { 0 },
+                count: depth_where(depth, reached, span, from),
                 start: reached.saturating_sub(from * span),
                 runs: side.wraps || side.at + 1 < side.places,
             }

@@ -44,7 +44,7 @@ fn lies_in(v: usize, span: usize, block: usize) -> bool
 }
 
 /// The depth, or none where a coordinate doesn't lie in a block.
-fn depth_where(depth: usize, v: usize, span: usize, block: usize) -> usize
+pub(crate) fn depth_where(depth: usize, v: usize, span: usize, block: usize) -> usize
     requires some { 0 < span }
     requires most { span ≤ 32 }
     requires block { block < 2048 }

@@ -31,7 +31,7 @@ pub fn empty_pieces(
     let n = block.edge() as usize;
     let depth = block.depth() as usize;
     let fields = block.fields();
-    let mut found = Vec::new(alloc);
+    let mut found = Vec::with_capacity(alloc, beside.len())?;
     add_between(
         alloc,
         n,
@@ -188,6 +188,7 @@ fn add_piece(
     z: u8,
     found: &mut Vec<Piece>,
 ) -> Result<(), Memory>
+    requires few { size ≤ 4096 }
     requires number_x { x < 3 }
     requires number_y { y < 3 }
     requires number_z { z < 3 }

@@ -1,5 +1,5 @@
 //! Pieces: the amounts of a region on their way.
-ghost use Rattle.std.specs.Prelude.{◌≡◌, ℕ, ◌+◌, ◌*◌, ◌%◌, ◌^◌, ◌<◌, ◌≤◌, [], IfOk, length, map, replicate, slice_index, slice_index_or, slice_set};
+ghost use Rattle.std.specs.Prelude.{◌≡◌, ℕ, ◌+◌, ◌*◌, ◌%◌, ◌^◌, ◌<◌, ◌≤◌, [], IfOk, length, replicate, slice_index, slice_index_or, slice_range, slice_set};
 ghost use Rattle.ghost_pieces.specs.Boxes.{span};
 ghost use Rattle.ghost_pieces.specs.Lemmas.Parts.{FitsIn, box_amounts};
 
@@ -10,8 +10,10 @@ use cello_neighbours::Direction;
 use cello_num::Memory;
 use std::alloc::Global;
 use std::marker::Model;
+use std_alloc::vec::run_mut;
 
-/// The samples of one region of a leaf's ghosts, on their way from the leaf that holds them.
+/// The samples of one region of a leaf's ghosts, on their way from the leaf that holds them. The amounts of all fields
+/// are one list, field after field, so a piece takes memory once.
 #[derive(Drop)]
 pub struct Piece {
     to: u32,
@@ -19,16 +21,22 @@ pub struct Piece {
     receiver: Place,
     sender: Place,
     direction: Direction,
-    amounts: Vec<Vec<u64>>,
+    fields: u8,
+    /// How many amounts a field has.
+    size: usize,
+    amounts: Vec<u64>,
 }
 
 impl Model for Piece {
-    ghost use Rattle.std.specs.Prelude.{map};
+    ghost use Rattle.std.specs.Prelude.{◌≡◌, ◌*◌, length, replicate};
+    ghost use Rattle.block_fields.specs.Layout.{cut};
     ghost use Rattle.ghost_pieces.specs.Pieces.{PieceState};
 
     ghost Value = { PieceState };
 
-    ghost view = { λ p. record { region = record { receiver = p.to; sender = p.from; direction = p.direction }; receiver = p.receiver; sender = p.sender; amounts = map (λ v. v.items) p.amounts.items } };
+    ghost view = { λ p. record { region = record { receiver = p.to; sender = p.from; direction = p.direction }; receiver = p.receiver; sender = p.sender; amounts = cut (replicate p.fields p.size) p.amounts.items } };
+
+    ghost invariant = { λ p. length p.amounts.items ≡ p.fields * p.size };
 }
 
 impl Piece {
@@ -43,6 +51,7 @@ impl Piece {
         fields: u8,
         size: usize,
     ) -> Result<Piece, Memory>
+        requires few { size ≤ 4096 }
         ensures zeros { IfOk result (λ piece. piece ≡ record { region = record { receiver = to; sender = from; direction = direction }; receiver = receiver; sender = sender; amounts = replicate fields (replicate size 0) }) }
     {
         Ok(Piece {
@@ -51,7 +60,9 @@ impl Piece {
             receiver,
             sender,
             direction,
-            amounts: zero_lists(alloc, fields, size)?,
+            fields,
+            size,
+            amounts: zeros(alloc, fields as usize * size)?,
         })
     }
 
@@ -94,7 +105,7 @@ impl Piece {
     pub fn fields(&self) -> usize
         ensures { result ≡ length self.now.amounts }
     {
-        self.amounts.len()
+        self.fields as usize
     }
 
     /// The amounts of a field, one a cell of the region, x fastest, then y, then z.
@@ -102,7 +113,8 @@ impl Piece {
         requires field { field < length self.now.amounts }
         ensures { result.now ≡ slice_index_or self.now.amounts field [] }
     {
-        self.amounts[field].as_slice()
+        let start = field * self.size;
+        part_of(self.amounts.as_slice(), start, start + self.size)
     }
 
     /// The amounts of a field become the samples of the box that three parts tell, from the sender's amounts.
@@ -132,19 +144,19 @@ impl Piece {
         requires size { length (slice_index_or self.old.amounts field []) ≡ parts.now.z.count * parts.now.y.count * parts.now.x.count }
         ensures filled { self.new ≡ record self.old { amounts = slice_set self.old.amounts field (box_amounts n level from q.now parts.now.x.start parts.now.x.runs parts.now.x.count parts.now.y.start parts.now.y.runs parts.now.y.count parts.now.z.start parts.now.z.runs parts.now.z.count) } }
     {
-        fill_box(q, n, level, from, parts, self.amounts[field].as_mut_slice());
+        let start = field * self.size;
+        let list = run_mut(&mut self.amounts, start, start + self.size);
+        fill_box(q, n, level, from, parts, list);
     }
 }
 
-/// As many lists of as many zeros.
-fn zero_lists(alloc: Global, count: u8, length: usize) -> Result<Vec<Vec<u64>>, Memory>
-    ensures lists { IfOk result (λ lists. map (λ v. v.items) lists.items ≡ replicate count (replicate length 0)) }
+/// A stretch of a list.
+fn part_of(list: &[u64], start: usize, end: usize) -> &[u64]
+    requires order { start ≤ end }
+    requires within { end ≤ length list.now }
+    ensures part { result.now ≡ slice_range list.now start end }
 {
-    let mut lists = Vec::with_capacity(alloc, count as usize)?;
-    for _ in 0..count {
-        lists.push(zeros(alloc, length)?)?;
-    }
-    Ok(lists)
+    &list[start..end]
 }
 
 /// A list of zeros.

@@ -3,7 +3,6 @@ pub mod Courses
 pub mod CourseLimits
 pub mod Runs
 pub mod PlainCounts
-pub mod Totals
 pub mod Steps
 pub mod Works
 pub mod Lemmas

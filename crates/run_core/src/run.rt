@@ -11,6 +11,7 @@ ghost use Rattle.run_core.specs.Works.{IsCounted, IsTold, IsWork, LimitEnds, Sta
 ghost use Rattle.run_core.specs.Lemmas.Bounds.{most_works};
 
 use crate::fault::RunFault;
+use crate::room::keep_freed_memory;
 use crate::step::{Stage, Step, after_cycle_told, after_round};
 use crate::totals::initial_totals;
 use crate::work::Work;
@@ -85,6 +86,7 @@ impl Run<Whole> {
         ensures counted { IfOk result (λ run. IsCounted run 0) }
         ensures few { IfOk result (λ run. works_left run ≤ most_works) }
     {
+        keep_freed_memory(alloc);
         let last = params.cycles();
         let set = LeafSet::roots(alloc, *params.domain())?;
         let blocks = fill(alloc, &params)?;

@@ -17,7 +17,7 @@ loop-j-init c =
     let d = c.depth-depth.result in
     let f = c.fields-fields.result in
     c.in_ok-add_between.ensures.added
-    ∙ ap (λ u. u ++ pieces_between c.domain.result.now n d f c.args.at s c.args.at s) c.new-found.ensures.items
+    ∙ ap (λ u. u ++ pieces_between c.domain.result.now n d f c.args.at s c.args.at s) c.in_ok-found.ensures.items
     ∙ ap (λ g. pieces_between g n d f c.args.at s c.args.at s) c.domain.ensures.grid
     ∙ pieces-first c.args.set.now.grid n d f c.args.set.now.places c.args.at s (c.requires.leaf ∙ ap Some (sym c.place-sender.ensures.place))
 
