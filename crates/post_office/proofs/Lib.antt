@@ -9,3 +9,4 @@ pub mod Ranks
 pub mod DealtOut
 pub mod PutBack
 pub mod Ending
+pub mod Sent

@@ -49,7 +49,7 @@ fn put_back<P: Phase>(
 
 impl<P: Phase> Post<P> {
     /// The cells at rest, in their first order, with the sum of what all visits handled. All seats have to be there, in
-    /// the order of their numbers, none may hold a slot, and one has to have seen a verdict. `Memory` comes only where
+    /// the order of their numbers, none may hold a slot, and one has to have seen a verdict. `Memory` comes exactly where
     /// the verdict is Stopped. It takes no memory.
     pub fn close(self, seats: Vec<PostSeat<P>>) -> Result<Quiet<P>, Memory>
         requires some_seat { 0 < vec_len seats }
@@ -57,9 +57,13 @@ impl<P: Phase> Post<P> {
         requires all { (s : _) → slice_get seats.items 0 ≡ Some s → (s.place.me.0.splits + 1 ≡ vec_len seats) × (s.place.me.0.joins ≡ 0) }
         requires seen { (i : ℕ) × (s : _) × (slice_get seats.items i ≡ Some s) × (s.place.me.0.seen ≢ 0) }
         ensures problem { IfOk result (λ quiet. quiet.problem ≡ P.problem self.phase self.first.value.items) }
+        ensures holds { IfOk result (λ quiet. P.holds (P.problem self.phase self.first.value.items) quiet.cells []) }
         ensures count { IfOk result (λ quiet. length quiet.cells ≡ length self.owners.items) }
         ensures handles_each { IfOk result (λ quiet. length quiet.cells ≤ quiet.handled) }
+        ensures bounded { IfOk result (λ quiet. quiet.handled ≤ P.start_weight (P.problem self.phase self.first.value.items)) }
         ensures stopped { OnErr result (1 ≤ stops (map (λ s. s.place.me.0) seats.items)) }
+        ensures at_quiet { IfOk result (λ _. (s : _) → slice_get seats.items 0 ≡ Some s → s.place.me.0.seen ≢ 0 → s.place.me.0.seen ≡ 1) }
+        ensures at_stop { OnErr result ((s : _) → slice_get seats.items 0 ≡ Some s → s.place.me.0.seen ≢ 0 → s.place.me.0.seen ≡ 2) }
     {
         let Post {
             board,

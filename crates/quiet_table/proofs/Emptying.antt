@@ -28,6 +28,10 @@ pub seen_left : (m n : ℕ) → m ≢ 0 → either_seen m n ≢ 0
 seen_left zero n h = absurd (h refl)
 seen_left (suc m) n h = h
 
+pub seen_kept : (m n : ℕ) → m ≢ 0 → either_seen m n ≡ m
+seen_kept zero n h = absurd (h refl)
+seen_kept (suc m) n h = refl
+
 pub seen_right : (m n : ℕ) → n ≢ 0 → either_seen m n ≢ 0
 seen_right zero n h = h
 seen_right (suc m) n h = λ e. absurd (omega arith)

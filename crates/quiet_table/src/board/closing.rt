@@ -191,7 +191,7 @@ impl<C: LegalLoad, B: Load<Rest = C::Rest, Parcel = C::Parcel>> Board<C, B> {
         ensures own { (first.new.place.table_id ≡ first.old.place.table_id) × (first.new.number ≡ 0) }
         ensures told { (first.new.place.me.0.hands ≡ first.old.place.me.0.hands) × (first.new.place.me.0.splits ≡ first.old.place.me.0.splits) × (first.new.place.me.0.joins ≡ vec_len others) }
         ensures stops { first.new.place.me.0.stops ≡ first.old.place.me.0.stops + stops (map (λ s. s.place.me.0) others.items) }
-        ensures seen { (first.old.place.me.0.seen ≢ 0 → first.new.place.me.0.seen ≢ 0) × ((i : ℕ) (s : _) → slice_get others.items i ≡ Some s → s.place.me.0.seen ≢ 0 → first.new.place.me.0.seen ≢ 0) }
+        ensures seen { (first.old.place.me.0.seen ≢ 0 → first.new.place.me.0.seen ≡ first.old.place.me.0.seen) × ((i : ℕ) (s : _) → slice_get others.items i ≡ Some s → s.place.me.0.seen ≢ 0 → first.new.place.me.0.seen ≢ 0) }
     {
         for other in others {
             self.absorb(first, other);
@@ -207,14 +207,15 @@ impl<C: LegalLoad, B: Load<Rest = C::Rest, Parcel = C::Parcel>> Board<C, B> {
         ensures told { (result.place.me.0.hands ≡ []) × (result.place.me.0.splits ≡ result.place.me.0.joins) }
         ensures stops { result.place.me.0.stops ≡ stops (map (λ s. s.place.me.0) seats.items) }
         ensures seen { (i : ℕ) (s : _) → slice_get seats.items i ≡ Some s → s.place.me.0.seen ≢ 0 → result.place.me.0.seen ≢ 0 }
+        ensures first { (s : _) → slice_get seats.items 0 ≡ Some s → s.place.me.0.seen ≢ 0 → result.place.me.0.seen ≡ s.place.me.0.seen }
     {
         let (mut first, others) = first_and_others(seats);
         self.absorb_all(&mut first, others);
         first
     }
 
-    /// What the slots hold in the end, by shard. All seats have to be there, in the order of their numbers, and none
-    /// may hold a slot. It takes no memory.
+    /// What the slots hold in the end, by shard, and the verdict: where the first seat has seen one, it is that one. All
+    /// seats have to be there, in the order of their numbers, and none may hold a slot. It takes no memory.
     pub fn close(self, seats: Vec<BoardSeat<C, B>>) -> Remains<C, B>
         requires some_seat { 0 < vec_len seats }
         requires each { (i : ℕ) (s : _) → slice_get seats.items i ≡ Some s → (s.number ≡ i) × (s.place.table_id ≡ self.table.shared.table_id) × (s.place.me.0.hands ≡ []) }
@@ -223,6 +224,7 @@ impl<C: LegalLoad, B: Load<Rest = C::Rest, Parcel = C::Parcel>> Board<C, B> {
         ensures legal { (more : ℕ) × C.legal (map C.rest result.cells.items ++ map B.rest result.boxes.items) (pool (map C.parcels result.cells.items ++ map B.parcels result.boxes.items)) (result.handled + more) × (verdict_word result.verdict ≡ 1 → (length (pool (map C.parcels result.cells.items ++ map B.parcels result.boxes.items)) ≡ 0) × (more ≡ 0)) }
         ensures origin { C.origin (map C.rest result.cells.items ++ map B.rest result.boxes.items) ≡ origin_of (contents_of C.rest C.parcels B.rest B.parcels) C.origin self.table.shared.key.value.items }
         ensures seen { (i : ℕ) (s : _) → slice_get seats.items i ≡ Some s → s.place.me.0.seen ≢ 0 → verdict_word result.verdict ≢ 0 }
+        ensures first { (s : _) → slice_get seats.items 0 ≡ Some s → s.place.me.0.seen ≢ 0 → verdict_word result.verdict ≡ s.place.me.0.seen }
         ensures stopped { verdict_word result.verdict ≡ 2 → 1 ≤ stops (map (λ s. s.place.me.0) seats.items) }
     {
         let first = self.gather(seats);

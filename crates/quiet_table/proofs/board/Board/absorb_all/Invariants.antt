@@ -12,6 +12,6 @@ invariant-loop-other g l = record {
   splits : l.first.place.me.0.splits ≡ l.fn.first.place.me.0.splits;
   joins : l.first.place.me.0.joins ≡ length l.yielded;
   stopped : l.first.place.me.0.stops ≡ l.fn.first.place.me.0.stops + stops (map (λ s. s.place.me.0) l.yielded);
-  saw : l.fn.first.place.me.0.seen ≢ 0 → l.first.place.me.0.seen ≢ 0;
+  saw : l.fn.first.place.me.0.seen ≢ 0 → l.first.place.me.0.seen ≡ l.fn.first.place.me.0.seen;
   seen : (i : ℕ) (s : _) → slice_get l.yielded i ≡ Some s → s.place.me.0.seen ≢ 0 → l.first.place.me.0.seen ≢ 0;
 }

@@ -29,3 +29,8 @@ returns-clause-seen g c = λ i s e h. let n = c.gather-first.ensures.seen i s e 
 
 pub returns-clause-stopped : goal.returns-clause-stopped
 returns-clause-stopped g c = λ q. let a = c.shut-closed.ensures.shut.stops_counted (sym c.empty.ensures.verdict ∙ q) in let d = c.gather-first.ensures.stops in omega arith
+
+pub returns-clause-first : goal.returns-clause-first
+returns-clause-first g c = λ s e h.
+    let q = c.gather-first.ensures.first s e h in
+    c.empty.ensures.verdict ∙ (sym (c.shut-closed.ensures.shut.saw (λ z. h (sym q ∙ z))) ∙ q)

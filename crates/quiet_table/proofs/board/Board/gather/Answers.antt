@@ -1,6 +1,7 @@
-use Rattle.std.proofs.Common.{◌≢◌, suc, map, length, arith, sym, ap, ◌∙◌}
+use Rattle.std.proofs.Common.{◌≡◌, ◌≢◌, suc, map, length, arith, sym, ap, subst, ◌∙◌}
 use Rattle.std.specs.Prelude.{slice_get}
 use Rattle.quiet_table.specs.BoardRule.{stops}
+use Rattle.std.proofs.lemmas.Option.{same_Some}
 use Rattle.quiet_table.proofs.Emptying.{each_first}
 use Rattle.quiet_table.proofs.board.Board.gather.Goals as goal
 
@@ -26,7 +27,12 @@ returns-clause-told g c =
     (t.0 ∙ (c.requires.each 0 _ at).2, (let a = t.1 in let b = t.2 in let d = (c.requires.all _ at).0 in let e = ap (λ l. length l) c.first_and_others-first.ensures in omega arith))
 
 pub returns-clause-seen : goal.returns-clause-seen
-returns-clause-seen g c = let s = c.absorb_all.ensures.seen in each_first (λ z. z.place.me.0.seen ≢ 0 → c.absorb_all.new.first.place.me.0.seen ≢ 0) c.args.seats.items c.first_and_others-first.result.0 c.first_and_others-first.result.1.items c.first_and_others-first.ensures s.0 s.1
+returns-clause-seen g c = let s = c.absorb_all.ensures.seen in each_first (λ z. z.place.me.0.seen ≢ 0 → c.absorb_all.new.first.place.me.0.seen ≢ 0) c.args.seats.items c.first_and_others-first.result.0 c.first_and_others-first.result.1.items c.first_and_others-first.ensures (λ h e. h (sym (s.0 h) ∙ e)) s.1
 
 pub returns-clause-stops : goal.returns-clause-stops
 returns-clause-stops g c = c.absorb_all.ensures.stops ∙ sym (ap (λ l. stops (map (λ s. s.place.me.0) l)) c.first_and_others-first.ensures)
+
+pub returns-clause-first : goal.returns-clause-first
+returns-clause-first g c = λ s e h.
+    let same : c.first_and_others-first.result.0 ≡ s = same_Some c.first_and_others-first.result.0 s (sym (ap (λ l. slice_get l 0) c.first_and_others-first.ensures) ∙ e) in
+    subst (λ z. z.place.me.0.seen ≢ 0 → c.absorb_all.new.first.place.me.0.seen ≡ z.place.me.0.seen) same c.absorb_all.ensures.seen.0 h

@@ -1,0 +1,2 @@
+-- What contracts of owners cite.
+pub mod Owners
