@@ -1,0 +1,102 @@
+//! A crew of workers, as a run makes it, over no blocks.
+ghost use Rattle.std.specs.Prelude.{◌≡◌, ◌≤◌, ℕ, [], All, IfOk, Some, length, map, slice_get};
+ghost use Rattle.block_fields.specs.Blocks.{BlockState, seen_at};
+ghost use Rattle.params_check.specs.Limits.{KeepsCriterion};
+ghost use Rattle.criteria.specs.Samples.{IsSmall};
+ghost use Rattle.criteria.specs.Wishes.{criteria_wish};
+ghost use Rattle.adapt_core.specs.Problem as adapt_problem;
+ghost use Rattle.refresh_phase.specs.Cells as refresh_cells;
+ghost use Rattle.refresh_phase.specs.Problem.{RefreshBegins};
+ghost use Rattle.flux_register.specs.Cells as flux_cells;
+ghost use Rattle.flux_register.specs.Made.{AreUpwindAdvanced};
+ghost use Rattle.flux_register.specs.Problem.{FluxFixBegins};
+ghost use Rattle.parallel_maps.specs.Advances.{CanAdvance};
+ghost use Rattle.crew.specs.Counts.{CountsWithin};
+
+use crate::resting::{adapt_to_rest, bring_to_rest};
+use crate::trait_of_crews::Crew;
+use crate::workers::Workers;
+use adapt_core::{Adapt, AdaptCell};
+use advect::FaceFluxes;
+use block_fields::Block;
+use block_index::Wish;
+use cello_io::{Gate, OpenGate};
+use cello_num::Memory;
+use flux_register::{FluxCell, FluxFix};
+use parallel_maps::{advances, wishes};
+use params_check::{Criterion, Params};
+use phase_core::Quiet;
+use refresh_phase::{Refresh, RefreshCell};
+use std::alloc::Global;
+use std::sync::Wait;
+use std::test::Fail;
+use std::thread::Threads;
+
+// Asks a crew for the wishes of no blocks.
+fn wishes_of_none<C: Crew>(crew: &C, alloc: Global) -> Result<Vec<Wish>, Memory>
+    requires ready { C.ready crew.now }
+    ensures none { IfOk result (λ wishes. wishes.items ≡ []) }
+{
+    crew.wishes(alloc, &[], 1, &[])
+}
+
+// Makes a crew of workers, and asks it.
+fn by_workers<R: Threads + Wait + Sync, G: Gate + Sync>(
+    rt: &R,
+    gate: &G,
+    workers: u32,
+    alloc: Global,
+) -> Result<Vec<Wish>, Memory>
+    requires workers { (1 ≤ workers) × (workers ≤ 16) }
+    ensures none { IfOk result (λ wishes. wishes.items ≡ []) }
+{
+    let crew = Workers {
+        refresh: |alloc: Global, phase: Refresh, cells: Vec<RefreshCell>| -> Result<
+            Quiet<Refresh>,
+            Memory,
+        >
+            requires workers { (1 ≤ workers) × (workers ≤ 16) }
+            requires begins { RefreshBegins (refresh_cells.problem_of phase cells.items) cells.items }
+            ensures problem { IfOk result (λ quiet. quiet.problem ≡ refresh_cells.problem_of phase cells.items) }
+        { bring_to_rest(rt, alloc, phase, cells, workers, gate) },
+        adapt: |alloc: Global, phase: Adapt, cells: Vec<AdaptCell>| -> Result<Quiet<Adapt>, Memory>
+            requires workers { (1 ≤ workers) × (workers ≤ 16) }
+            requires begins { adapt_problem.AdaptBegins (adapt_problem.problem_of phase cells.items) cells.items }
+            ensures problem { IfOk result (λ quiet. quiet.problem ≡ adapt_problem.problem_of phase cells.items) }
+            ensures counts { IfOk result (λ quiet. CountsWithin (adapt_problem.problem_of phase cells.items) quiet.handled) }
+        { adapt_to_rest(rt, alloc, phase, cells, workers, gate) },
+        correct: |alloc: Global, phase: FluxFix, cells: Vec<FluxCell>| -> Result<
+            Quiet<FluxFix>,
+            Memory,
+        >
+            requires workers { (1 ≤ workers) × (workers ≤ 16) }
+            requires begins { FluxFixBegins (flux_cells.problem_of phase cells.items) cells.items }
+            ensures problem { IfOk result (λ quiet. quiet.problem ≡ flux_cells.problem_of phase cells.items) }
+        { bring_to_rest(rt, alloc, phase, cells, workers, gate) },
+        wishes: |alloc: Global, criteria: &[Criterion], phase: u32, blocks: &[Block]| -> Result<
+            Vec<Wish>,
+            Memory,
+        >
+            requires workers { (1 ≤ workers) × (workers ≤ 16) }
+            requires limits { (i : ℕ) (b : BlockState) → slice_get blocks.now i ≡ Some b → All (KeepsCriterion (length b.amounts)) criteria.now }
+            requires small { (i : ℕ) (b : BlockState) → slice_get blocks.now i ≡ Some b → IsSmall b }
+            ensures wishes { IfOk result (λ wishes. wishes.items ≡ map (λ b. criteria_wish b.edge phase criteria.now (seen_at b) b.place) blocks.now) }
+        { wishes(rt, alloc, workers, criteria, phase, blocks) },
+        advance: |alloc: Global, params: &Params, blocks: &mut Vec<Block>| -> Result<
+            Vec<FaceFluxes>,
+            Memory,
+        >
+            requires workers { (1 ≤ workers) × (workers ≤ 16) }
+            requires can { (i : ℕ) (b : BlockState) → slice_get blocks.old.items i ≡ Some b → CanAdvance params.now b }
+            ensures advanced { IfOk result (λ faces. AreUpwindAdvanced params.now blocks.old.items blocks.new.items faces.items) }
+        { advances(rt, alloc, workers, params, blocks) },
+    };
+    wishes_of_none(&crew, alloc)
+}
+
+#[test]
+fn nothing_is_wished(rt: HostRuntime) -> Result<(), Fail> {
+    let wishes = by_workers(&rt, &OpenGate, 3, rt.alloc())?;
+    assert!(rt; wishes.is_empty());
+    Ok(())
+}

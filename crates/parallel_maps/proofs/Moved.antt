@@ -1,0 +1,101 @@
+-- Blocks that move from list to list one by one, and those that were advanced in several threads.
+use Rattle.std.proofs.Common.{◌≡◌, ℕ, zero, suc, ◌<◌, List, [], ◌∷◌, ◌++◌, Some, All, map, take, drop, length, refl, sym, ap, ◌∙◌, subst, arith}
+use Rattle.std.specs.Prelude.{slice_get, slice_index_or}
+use Rattle.std.proofs.lemmas.List.{length-map, drop_all, take_all}
+use Rattle.std.proofs.lemmas.Option.{same_Some, slice_get_past, slice_get-get_or}
+use Rattle.phase_core.specs.Lemmas.Lookups.{get-map, get-map_back}
+use Rattle.block_fields.specs.Blocks.{BlockState}
+use Rattle.params_check.specs.Parameters.{Parameters}
+use Rattle.advect.specs.FaceFluxes.{FaceFluxState}
+use Rattle.flux_register.specs.Made.{AreUpwindAdvanced}
+use Rattle.parallel_maps.specs.declared.moving.Moving.{Moving}
+use Rattle.parallel_maps.specs.Advances.{CanAdvance, IsAdvanced}
+use Rattle.parallel_maps.proofs.BlockAdvances.{advances-all}
+
+-- a list without elements
+pub nothing_left : {A : Type 0} (xs : List A) → length xs ≡ 0 → xs ≡ []
+nothing_left [] e = refl
+nothing_left (x ∷ xs) e = absurd (omega (arith, e))
+
+-- an element behind a list and before another
+between : {A : Type 0} (xs : List A) (y : A) (zs : List A) → (xs ++ y ∷ []) ++ zs ≡ xs ++ y ∷ zs
+between [] y zs = refl
+between (x ∷ xs) y zs = ap (λ l. x ∷ l) (between xs y zs)
+
+map_between : {A B : Type 0} (f : A → B) (xs : List A) (y : A) (zs : List B) → map f (xs ++ y ∷ []) ++ zs ≡ map f xs ++ f y ∷ zs
+map_between f [] y zs = refl
+map_between f (x ∷ xs) y zs = ap (λ l. f x ∷ l) (map_between f xs y zs)
+
+nil_behind : {A : Type 0} (xs : List A) → xs ++ [] ≡ xs
+nil_behind [] = refl
+nil_behind (x ∷ xs) = ap (λ l. x ∷ l) (nil_behind xs)
+
+-- the first of what is left has joined those before it, in a pair
+pub joins : {A B : Type 0} (f : A → B) (all : List B) (here made : List A) (rest later : List B) (x : A) (y : B)
+    → map f here ++ rest ≡ all → rest ≡ y ∷ later → made ≡ here ++ x ∷ [] → f x ≡ y → map f made ++ later ≡ all
+joins f all here made rest later x y walks steps pushes is =
+    ap (λ l. map f l ++ later) pushes ∙ (map_between f here x later ∙ (ap (λ z. map f here ++ z ∷ later) is ∙ (ap (λ l. map f here ++ l) (sym steps) ∙ walks)))
+
+-- a part of the first of what is left has joined those before it
+pub leaves : {A B : Type 0} (f : A → B) (all : List B) (here made : List B) (rest later : List A) (x : A)
+    → here ++ map f rest ≡ all → rest ≡ x ∷ later → made ≡ here ++ f x ∷ [] → made ++ map f later ≡ all
+leaves f all here made rest later x walks steps pushes =
+    ap (λ l. l ++ map f later) pushes ∙ (between here (f x) (map f later) ∙ (ap (λ l. here ++ map f l) (sym steps) ∙ walks))
+
+-- nothing is left
+pub joined : {A : Type 0} (all here rest : List A) → here ++ rest ≡ all → rest ≡ [] → here ≡ all
+joined all here rest walks none = sym (nil_behind here) ∙ (ap (λ l. here ++ l) (sym none) ∙ walks)
+
+pub left : {A B : Type 0} (f : A → B) (all here : List B) (rest : List A) → here ++ map f rest ≡ all → rest ≡ [] → here ≡ all
+left f all here rest walks none = joined all here (map f rest) walks (ap (map f) none)
+
+-- what a list is after all of it was written to
+pub written_back : {A : Type 0} (n : ℕ) (old new : List A) → n ≡ length old → length new ≡ length old → take n (new ++ drop (length new) old) ≡ new
+written_back n old new counted long =
+    ap (λ l. take n (new ++ l)) (drop_all (length new) old (omega (arith, long))) ∙ (ap (take n) (nil_behind new) ∙ take_all n new (omega (arith, counted, long)))
+
+-- all of a list and one more
+pub one_more : {A : Type 0} (P : A → Type 0) (here made : List A) (x : A) → All P here → made ≡ here ++ x ∷ [] → P x → All P made
+one_more {A} P here made x all pushes one = subst (λ (l : List A). All P l) (sym pushes) (behind here all)
+  where
+    behind : (xs : List A) → All P xs → All P (xs ++ x ∷ [])
+    behind [] h zero d l = one
+    behind [] h (suc k) d l = absurd (omega (arith, l))
+    behind (y ∷ ys) h zero d l = h zero d (omega arith)
+    behind (y ∷ ys) h (suc k) d l = behind ys (λ j e m. h (suc j) e (omega (arith, m))) k d (omega (arith, l))
+
+-- blocks that can be advanced, beside their rooms
+pub can-each : (p : Parameters) (befores : List BlockState) (moving : List Moving) → map (λ (m : Moving). m.block) moving ≡ befores
+    → ((i : ℕ) (b : BlockState) → slice_get befores i ≡ Some b → CanAdvance p b) → (k : ℕ) (d : Moving) → k < length moving
+    → CanAdvance p (slice_index_or moving k d).block
+can-each p befores moving first can k d below =
+    let block : Moving → BlockState = λ m. m.block in
+    let m : Moving = slice_index_or moving k d in
+    can k m.block (subst (λ (l : List BlockState). slice_get l k ≡ Some m.block) first (get-map block moving k m (slice_get-get_or moving k d below)))
+
+-- all blocks that were taken apart again are advanced
+pub all-moved : (p : Parameters) (befores blocks : List BlockState) (faces : List FaceFluxState) (moving moved : List Moving)
+    → map (λ (m : Moving). m.block) moving ≡ befores → blocks ≡ map (λ (m : Moving). m.block) moved → faces ≡ map (λ (m : Moving). m.faces) moved
+    → length moved ≡ length moving
+    → ((i : ℕ) (m n : Moving) → slice_get moving i ≡ Some m → slice_get moved i ≡ Some n → IsAdvanced p m.block n.block n.faces)
+    → AreUpwindAdvanced p befores blocks faces
+all-moved p befores blocks faces moving moved first second third long each =
+    let block : Moving → BlockState = λ m. m.block in
+    let fluxes : Moving → FaceFluxState = λ m. m.faces in
+    let count : length befores ≡ length moving = sym (ap length first) ∙ length-map moving block in
+    let one_each : length blocks ≡ length befores = ap length second ∙ (length-map moved block ∙ (long ∙ sym count)) in
+    let counted : length faces ≡ length befores = ap length third ∙ (length-map moved fluxes ∙ (long ∙ sym count)) in
+    advances-all p (length befores) befores blocks faces (λ h. omega (arith, h)) (omega arith) (record {
+      one_each = one_each;
+      counted = counted;
+      ahead = λ i h. slice_get_past blocks i (omega (arith, h, one_each)) ∙ sym (slice_get_past befores i h);
+      each = λ i b new q below before now face.
+          let m = get-map_back block moving i b (subst (λ (l : List BlockState). slice_get l i ≡ Some b) (sym first) before) in
+          let n = get-map_back block moved i new (subst (λ (l : List BlockState). slice_get l i ≡ Some new) second now) in
+          let k = get-map_back fluxes moved i q (subst (λ (l : List FaceFluxState). slice_get l i ≡ Some q) third face) in
+          let same : n.0 ≡ k.0 = same_Some n.0 k.0 (sym n.1 ∙ k.1) in
+          let of_faces : n.0.faces ≡ q = ap fluxes same ∙ k.2 in
+          subst (λ (x : BlockState). IsAdvanced p x new q) m.2
+          (subst (λ (x : BlockState). IsAdvanced p m.0.block x q) n.2
+          (subst (λ (x : FaceFluxState). IsAdvanced p m.0.block n.0.block x) of_faces (each i m.0 n.0 m.1 n.1)));
+    })

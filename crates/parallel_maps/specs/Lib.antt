@@ -1,0 +1,3 @@
+-- What contracts cite. `Lemmas` is for the proofs alone.
+pub mod Advances
+pub mod Lemmas
