@@ -1,0 +1,2 @@
+pub mod DemoTexts
+pub mod Examples

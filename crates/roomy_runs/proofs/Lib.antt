@@ -1,0 +1,4 @@
+-- Lemmas by subject.
+mod Room
+mod Accepted
+mod Ends

@@ -1,0 +1,4 @@
+-- What laws of runs with room cite.
+pub mod RoomyRuns
+pub mod Summaries
+pub mod Examples
