@@ -8,7 +8,7 @@ use Rattle.params_check.specs.Parameters.{Parameters}
 use Rattle.checkpoint.specs.SavedStates.{SavedState}
 use Rattle.checkpoint.specs.Spelling as checkpoint
 use Rattle.mesh_output.specs.FieldFiles.{field_bytes}
-use Rattle.mesh_output.specs.Lines.{header_line, phase_line, cycle_line, field_line, mesh_text, end_line}
+use Rattle.mesh_output.specs.Lines.{header_line, restart_line, phase_line, cycle_line, field_line, mesh_text, end_line}
 use Rattle.run_core.specs.Courses.{Told, phase_ended, cycle_ended, is_due, totals_of}
 use Rattle.run_report.specs.declared.due.Due.{Due}
 use Rattle.run_report.specs.FileNames.{mesh_name, fields_name, state_name}
@@ -90,7 +90,20 @@ report_actions p told = flat_map (actions_of p) told
 abbrev pub opening_actions : Parameters → List Told → List Action
 opening_actions p told = piece header_line ∷ report_actions p told
 
+-- What a run writes behind its first lines, of which this is told and which ends on these leaves: what is told, and where
+-- no limit ended it, the closing list.
+abbrev pub later_actions : {L : Type 0} → Parameters → List Told → List Cube → Option L → List Action
+later_actions p told leaves None = report_actions p told ++ closing_piece leaves ∷ []
+later_actions p told leaves (Some limit) = report_actions p told
+
 -- All that a run writes of which this is told and which ends on these leaves. Where a limit ended it, it isn't closed.
 abbrev pub run_actions : {L : Type 0} → Parameters → List Told → List Cube → Option L → List Action
-run_actions p told leaves None = opening_actions p told ++ closing_piece leaves ∷ []
-run_actions p told leaves (Some limit) = opening_actions p told
+run_actions p told leaves limit = piece header_line ∷ later_actions p told leaves limit
+
+-- the first lines of a run that goes on after a cycle from a mesh of so many leaves
+abbrev pub restart_pieces : ℕ → ℕ → List Action
+restart_pieces cycle leaves = piece header_line ∷ piece (restart_line cycle leaves) ∷ []
+
+-- all that a run writes that goes on so
+abbrev pub resumed_actions : {L : Type 0} → Parameters → ℕ → ℕ → List Told → List Cube → Option L → List Action
+resumed_actions p cycle first told leaves limit = restart_pieces cycle first ++ later_actions p told leaves limit

@@ -19,4 +19,4 @@ pub use due::Due;
 pub use emission::emit;
 pub use file_name::{fields_name, mesh_name, state_name};
 pub use laws::{names_of_their_own, pieces_begin};
-pub use report::{write_end_list, write_first_line, write_told_phase};
+pub use report::{write_end_list, write_first_line, write_second_line, write_told_phase};

@@ -3,7 +3,7 @@ ghost use Rattle.std.specs.Prelude.{◌≡◌, [], ◌∷◌, ◌++◌, List, Op
 ghost use Rattle.cello_io.specs.Counts.{HasCause};
 ghost use Rattle.cello_io.specs.Files.{MadeFile};
 ghost use Rattle.cello_io.specs.Writes.{Wrote};
-ghost use Rattle.mesh_output.specs.Lines.{header_line, mesh_text, end_line};
+ghost use Rattle.mesh_output.specs.Lines.{header_line, restart_line, mesh_text, end_line};
 ghost use Rattle.params_check.specs.Parameters.{Parameters};
 ghost use Rattle.run_core.specs.Courses.{phase_ended};
 ghost use Rattle.run_report.specs.Actions.{piece, closing_piece, actions_of};
@@ -11,7 +11,7 @@ ghost use Rattle.run_report.specs.Outputs.{Acted, output};
 
 use cello_io::{Failed, Sink};
 use leaf_set::LeafSet;
-use mesh_output::{write_end, write_header, write_mesh, write_phase_line};
+use mesh_output::{write_end, write_header, write_mesh, write_phase_line, write_restart_line};
 
 /// Writes the first line of a report.
 pub fn write_first_line<K: Sink>(sink: &mut K) -> Result<(), Failed>
@@ -20,6 +20,16 @@ pub fn write_first_line<K: Sink>(sink: &mut K) -> Result<(), Failed>
     ensures cause { HasCause (K.write_faults sink.old) (K.write_faults sink.new) result }
 {
     write_header(sink)
+}
+
+/// Writes the second line of the report of a run that goes on: the cycle after which it does, and the number of leaves then.
+pub fn write_second_line<K: Sink>(cycle: u32, leaves: u32, sink: &mut K) -> Result<(), Failed>
+    ensures acted { (files : Option (List MadeFile)) →
+        Acted (piece (restart_line cycle leaves) ∷ []) (output (K.written sink.old) files) (output (K.written sink.new) files) result }
+    ensures same_rest { K.rest sink.new ≡ K.rest sink.old }
+    ensures cause { HasCause (K.write_faults sink.old) (K.write_faults sink.new) result }
+{
+    write_restart_line(cycle, leaves, sink)
 }
 
 /// Writes the line of a phase that ended: its number, and the number of leaves after it.
