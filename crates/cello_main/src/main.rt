@@ -1,12 +1,14 @@
 //! The program: the commands on standard input, standard output and the files of the current folder.
 #![tactic(auto)]
 
-use cello_io::{ErrSink, FolderShelf, StdSink, StdSource};
+use cello_io::{ErrSink, FolderShelf, OpenGate, StdSink, StdSource};
 use cello_num::Memory;
-use cello_top::{Fault, solo, write_fault};
+use cello_top::{Fault, enter, write_fault};
 use std::env;
 use std::io::ErrorKind;
 use std::process::ExitCode;
+use std::sync::Wait;
+use std::thread::Threads;
 
 /// The status where memory is refused before a command begins.
 const OUT_OF_MEMORY: u8 = 5;
@@ -36,19 +38,29 @@ fn tell(rt: &HostRuntime, fault: Option<Fault>) {
     }
 }
 
-/// Runs the command of these words on the standard streams and the current folder, and answers its status.
-fn run(rt: &HostRuntime, words: &[String]) -> u8 {
+/// Runs the command of these words on the standard streams and the current folder, by threads of this handle where workers
+/// are asked for, and answers its status.
+fn run<R: Threads + Wait + Sync>(rt: &HostRuntime, threads: &R, words: &[String]) -> u8 {
     let mut source = StdSource::new(rt.stdin());
     let mut sink = StdSink::new(rt.stdout());
     let mut shelf = FolderShelf::new(rt, ".");
-    let outcome = solo(rt.alloc(), words, &mut source, &mut sink, &mut shelf);
+    let alloc = rt.alloc();
+    let outcome = enter(
+        threads,
+        alloc,
+        words,
+        &mut source,
+        &mut sink,
+        &mut shelf,
+        &OpenGate,
+    );
     tell(rt, outcome.fault);
     outcome.status
 }
 
 fn main(rt: HostRuntime) -> ExitCode {
     match words(&rt) {
-        Ok(words) => ExitCode::from(run(&rt, &words)),
+        Ok(words) => ExitCode::from(run(&rt, &rt, &words)),
         Err(Memory) => ExitCode::from(OUT_OF_MEMORY),
     }
 }

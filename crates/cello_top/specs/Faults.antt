@@ -3,9 +3,9 @@ use Rattle.std.specs.Prelude.{ℕ, Bool, true, false, T, Option, Some, None}
 use Rattle.run_core.specs.declared.fault.RunFault.{RunFault}
 use Rattle.run_core.specs.declared.fault.RunFault.TheVariants as run
 use Rattle.cello_top.specs.declared.fault.Fault.{Fault}
-use Rattle.cello_top.specs.declared.fault.Fault.TheVariants.{Usage, Syntax, Param, LevelLimit, BlockLimit, ReadFault, WriteFault, Memory}
+use Rattle.cello_top.specs.declared.fault.Fault.TheVariants.{Usage, Syntax, Param, LevelLimit, BlockLimit, ReadFault, WriteFault, Absent, Checkpoint, Memory}
 use Rattle.cello_top.specs.declared.fault_class.FaultClass.{FaultClass}
-use Rattle.cello_top.specs.declared.fault_class.FaultClass.TheVariants.{Words, Text, Limit, Source, Sink, Allocator}
+use Rattle.cello_top.specs.declared.fault_class.FaultClass.TheVariants.{Words, Text, Limit, Source, Sink, File, Allocator}
 
 -- what a fault comes from
 abbrev pub class_of : Fault → FaultClass
@@ -16,10 +16,12 @@ class_of (LevelLimit phase place) = Limit
 class_of (BlockLimit phase count limit) = Limit
 class_of ReadFault = Source
 class_of WriteFault = Sink
+class_of (Absent name) = File
+class_of (Checkpoint fault) = File
 class_of Memory = Allocator
 
--- How a call ends: its exit status; whether the answer to the words and the bytes says so, and no device or want of
--- memory; whether the call came as far as to look at the full text, and whether it can have come as far as to write.
+-- How a call ends: its exit status; whether the answer to the words, the bytes and the past files says so, and no device
+-- or want of memory; whether the call came as far as to look at the full text, and whether it can have come as far as to write.
 pub record Ending : Type 0 where
   pub status : ℕ
   pub answered : Bool
@@ -36,6 +38,7 @@ class_ending Text = ending_row 2 true true false
 class_ending Limit = ending_row 3 true true true
 class_ending Source = ending_row 4 false false false
 class_ending Sink = ending_row 4 false true true
+class_ending File = ending_row 6 true false false
 class_ending Allocator = ending_row 5 false false true
 
 -- without a fault, or by one

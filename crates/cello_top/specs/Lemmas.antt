@@ -1,4 +1,6 @@
 -- Definitions that serve proofs alone.
-pub mod Advances
 pub mod CommandSteps
 pub mod Engine
+pub mod Resuming
+pub mod Demonstrating
+pub mod Asking

@@ -12,19 +12,22 @@ ghost use Rattle.cello_top.specs.Lemmas.CommandSteps.{IsOf, call_saw, AnswersRea
 use crate::engine::run_parameters;
 use crate::fault::Fault;
 use crate::parameters::read_parameters;
-use crate::words::Command;
+use crate::words::TextCommand;
 use cello_io::{Failed, Shelf, Sink, Source, write_all};
+use crew::Crew;
 use params_check::Params;
 use std::alloc::Global;
 
-/// Carries a command out. It answers how many messages were handled.
-pub fn carry_out<S: Source, K: Sink, H: Shelf>(
+/// Carries a command out, a run by this crew. It answers how many messages were handled.
+pub fn carry_out<C: Crew, S: Source, K: Sink, H: Shelf>(
     alloc: Global,
-    command: Command,
+    crew: &C,
+    command: TextCommand,
     source: &mut S,
     sink: &mut K,
     shelf: &mut H,
 ) -> Result<u64, Fault>
+    requires ready { C.ready crew.now }
     requires idle { IsFalse (H.tells shelf.old).is_writing }
     ensures done { (words : List (List ℕ)) → IsOf command words → IfOk result (λ _. AnswersRead words None
         (call_saw (S.left source.old) (S.left source.new) (S.has_ended source.new)
@@ -33,11 +36,11 @@ pub fn carry_out<S: Source, K: Sink, H: Shelf>(
         (call_saw (S.left source.old) (S.left source.new) (S.has_ended source.new)
         (output (K.written sink.old) (H.tells shelf.old).written) (output (K.written sink.new) (H.tells shelf.new).written))) }
     ensures handled { IfOk result (λ handled.
-        CommandHandles command (S.left source.old) (S.left source.new) (S.has_ended source.new) handled) }
+        CommandHandles C.counts command (S.left source.old) (S.left source.new) (S.has_ended source.new) handled) }
     ensures unwritten { IfErr result (λ fault. (CameToWrite (Some fault) → ⊥) → sink.new ≡ sink.old) }
     ensures unfiled { IfErr result (λ fault. (CameToWrite (Some fault) → ⊥) → shelf.new ≡ shelf.old) }
-    ensures check_files { command ≡ Command.Check → shelf.new ≡ shelf.old }
-    ensures check_cause { command ≡ Command.Check → IsErrOf result Fault.WriteFault → Rose (K.write_faults sink.old) (K.write_faults sink.new) }
+    ensures check_files { command ≡ TextCommand.Check → shelf.new ≡ shelf.old }
+    ensures check_cause { command ≡ TextCommand.Check → IsErrOf result Fault.WriteFault → Rose (K.write_faults sink.old) (K.write_faults sink.new) }
     ensures read_most { LostAtMost read_limit (S.left source.old) (S.left source.new) }
     ensures read_cause { IsErrOf result Fault.ReadFault → Rose (S.read_faults source.old) (S.read_faults source.new) }
     ensures devices { TreatsDevices (K.write_faults sink.old) (K.write_faults sink.new) (H.tells shelf.old) (H.tells shelf.new) (IsErrOf result Fault.WriteFault) }
@@ -46,8 +49,8 @@ pub fn carry_out<S: Source, K: Sink, H: Shelf>(
 {
     let params = read_parameters(alloc, source)?;
     match command {
-        Command::Check => write_text(&params, sink),
-        Command::Solo => run_parameters(alloc, params, sink, shelf),
+        TextCommand::Check => write_text(&params, sink),
+        TextCommand::Solo => run_parameters(alloc, crew, params, sink, shelf),
     }
 }
 

@@ -4,6 +4,8 @@ ghost use Rattle.cello_top.specs.Faults.{class_of, fault_of};
 
 use crate::fault_class::FaultClass;
 use block_index::Place;
+use cello_num::Name;
+use checkpoint::CheckFault;
 use params_check::ParamFault;
 use params_syntax::SyntaxFault;
 use run_core::RunFault;
@@ -21,10 +23,14 @@ pub enum Fault {
     LevelLimit { phase: u32, place: Place },
     /// This phase would lead to more leaves than there may be blocks.
     BlockLimit { phase: u32, count: u32, limit: u32 },
-    /// The source failed.
+    /// The source failed, or the shelf while a file was fetched.
     ReadFault,
     /// The sink failed, or the shelf while a file was written.
     WriteFault,
+    /// The shelf has no file of this name.
+    Absent { name: Name },
+    /// The file is no checkpoint.
+    Checkpoint(CheckFault),
     /// Memory was refused.
     Memory,
 }
@@ -40,6 +46,7 @@ impl Fault {
             Fault::LevelLimit { .. } | Fault::BlockLimit { .. } => FaultClass::Limit,
             Fault::ReadFault => FaultClass::Source,
             Fault::WriteFault => FaultClass::Sink,
+            Fault::Absent { .. } | Fault::Checkpoint(_) => FaultClass::File,
             Fault::Memory => FaultClass::Allocator,
         }
     }

@@ -11,10 +11,12 @@ pub enum FaultClass {
     Text,
     /// A limit of the run.
     Limit,
-    /// The source.
+    /// The source, or the shelf while a file was fetched.
     Source,
     /// The sink, or the shelf while a file was written.
     Sink,
+    /// The file of a name: that there is none, or what it holds.
+    File,
     /// Want of memory.
     Allocator,
 }
@@ -30,6 +32,7 @@ impl FaultClass {
             FaultClass::Limit => 3,
             FaultClass::Source | FaultClass::Sink => 4,
             FaultClass::Allocator => 5,
+            FaultClass::File => 6,
         }
     }
 }

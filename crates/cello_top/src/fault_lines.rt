@@ -5,6 +5,7 @@ ghost use Rattle.cello_io.specs.Writes.{Wrote};
 ghost use Rattle.cello_top.specs.FaultLines.{syntax_name, kind_name, syntax_line, param_line, level_limit_line, block_limit_line, fault_line};
 
 use crate::fault::Fault;
+use crate::file_lines::{absent_line, checkpoint_line};
 use block_index::Place;
 use cello_io::{Failed, Sink, write_all};
 use params_check::{ParamFault, ParamKind};
@@ -115,6 +116,8 @@ fn fault_line(fault: &Fault) -> Line
         } => block_limit_line(*phase, *count, *limit),
         Fault::ReadFault => Line::of(b"cello: read fault\n"),
         Fault::WriteFault => Line::of(b"cello: write fault\n"),
+        Fault::Absent { name } => absent_line(name),
+        Fault::Checkpoint(fault) => checkpoint_line(fault),
         Fault::Memory => Line::of(b"cello: out of memory\n"),
     }
 }

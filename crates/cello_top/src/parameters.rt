@@ -30,7 +30,7 @@ pub fn read_parameters<S: Source>(alloc: Global, source: &mut S) -> Result<Param
 }
 
 /// The parameters of a text.
-fn parameters_of(alloc: Global, text: &[u8]) -> Result<Params, Fault>
+pub(crate) fn parameters_of(alloc: Global, text: &[u8]) -> Result<Params, Fault>
     ensures found { IfOk result (λ p. HasParameters text.now p) }
     ensures faulty { IfErr result (λ fault. (fault ≡ Fault.Memory) ⊎ HasTextFault text.now fault) }
 {

@@ -127,11 +127,11 @@ fn failed_with(called: &Called, length: usize) -> bool {
     }
 }
 
-/// A checkpoint of one leaf is created, written in ten pieces and sealed. Where its seal fails, it has all its bytes,
-/// the lines of cycle 0 stand, and nothing is written any more.
+/// A checkpoint of one leaf is created, written in one piece and sealed. Where its seal fails, it has all its bytes, the
+/// lines of cycle 0 stand, and nothing is written any more.
 #[test]
 fn a_seal_fails(rt: HostRuntime) {
-    let called = call(rt.alloc(), "solo", DRIFTING, &[], &[], &[12]).expect(&rt, "memory");
+    let called = call(rt.alloc(), "solo", DRIFTING, &[], &[], &[3]).expect(&rt, "memory");
     assert!(rt; failed_with(&called, 880));
     let lines = b"cello report 1\ncycle 0 leaves 1\nfield a total 1 out 0 gone 0\n".as_slice();
     assert!(rt; called.bytes.as_slice() == lines);

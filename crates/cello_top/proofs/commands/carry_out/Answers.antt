@@ -23,7 +23,7 @@ returns-in-Check-clause-ended g c = λ words is.
 pub returns-in-Solo-clause-done : goal.returns-in-Solo-clause-done
 returns-in-Solo-clause-done g c = λ words is.
     IfOk-weaker c.run_parameters.result _ _
-    (λ handled h. run-written words _ _ _ _ _ c.in_ok-params.params c.in_ok-params.ensures.found handled (subst (λ command. IsOf command words) c.in-Solo.is is) h)
+    (λ handled h. run-written words _ _ _ _ _ c.in_ok-params.params c.in_ok-params.ensures.found g.C.Crew.counts handled (subst (λ command. IsOf command words) c.in-Solo.is is) h)
     c.run_parameters.ensures.whole
 
 pub returns-in-Solo-clause-ended : goal.returns-in-Solo-clause-ended
@@ -33,10 +33,10 @@ returns-in-Solo-clause-ended g c = λ words is.
     c.run_parameters.ensures.ended
 
 pub returns-in-Solo-clause-unwritten : goal.returns-in-Solo-clause-unwritten
-returns-in-Solo-clause-unwritten g c = run-unwritten _ _ _ _ c.run_parameters.result c.run_parameters.ensures.ended
+returns-in-Solo-clause-unwritten g c = run-unwritten _ _ _ _ _ c.run_parameters.result c.run_parameters.ensures.ended
 
 pub returns-in-Solo-clause-unfiled : goal.returns-in-Solo-clause-unfiled
-returns-in-Solo-clause-unfiled g c = run-unwritten _ _ _ _ c.run_parameters.result c.run_parameters.ensures.ended
+returns-in-Solo-clause-unfiled g c = run-unwritten _ _ _ _ _ c.run_parameters.result c.run_parameters.ensures.ended
 
 pub returns-in-Solo-clause-read_cause : goal.returns-in-Solo-clause-read_cause
-returns-in-Solo-clause-read_cause g c = λ e. absurd (run-not-read _ _ _ c.run_parameters.result c.run_parameters.ensures.ended e)
+returns-in-Solo-clause-read_cause g c = λ e. absurd (run-not-read _ _ _ _ c.run_parameters.result c.run_parameters.ensures.ended e)

@@ -12,8 +12,8 @@ abbrev pub invariant-loop-count : goal.invariant-loop-count
 invariant-loop-count g l = record {
   same : l.run.course ≡ l.fn.run.course;
   next : l.run.stage ≡ Next;
-  told : (before : Output) → Tells l.fn.run 0 before (output (g.K.Sink.written l.fn.sink) (g.H.Shelf.tells l.fn.shelf).written)
-      → Tells l.run l.handled before (output (g.K.Sink.written l.sink) (g.H.Shelf.tells l.shelf).written);
+  told : (before : Output) → Tells g.C.Crew.counts l.fn.run 0 before (output (g.K.Sink.written l.fn.sink) (g.H.Shelf.tells l.fn.shelf).written)
+      → Tells g.C.Crew.counts l.run l.handled before (output (g.K.Sink.written l.sink) (g.H.Shelf.tells l.shelf).written);
   few : l.handled + works_left l.run * many_messages ≤ most_works * many_messages;
   devices : TreatsDevices (g.K.Sink.write_faults l.fn.sink) (g.K.Sink.write_faults l.sink) (g.H.Shelf.tells l.fn.shelf) (g.H.Shelf.tells l.shelf) ⊥;
   same_rest : g.K.Sink.rest l.sink ≡ g.K.Sink.rest l.fn.sink;

@@ -2,5 +2,5 @@
 use Rattle.cello_top.proofs.BlockAdvances.{can-advance}
 use Rattle.cello_top.proofs.works.give_advanced.Goals as goal
 
-pub advance_blocks-requires : goal.advance_blocks-requires
-advance_blocks-requires c = record { can = can-advance c.args.run.now c.params.result.now c.args.blocks.items c.params.ensures.params c.requires.work }
+pub advance-requires-clause-can : goal.advance-requires-clause-can
+advance-requires-clause-can g c = can-advance c.args.run.now c.params.result.now c.args.blocks.items c.params.ensures.params c.requires.work
