@@ -2,7 +2,6 @@
 use Rattle.std.proofs.Common.{◌≡◌, ℕ, zero, suc, ◌+◌, ◌-◌, ◌*◌, ◌<◌, nat_le, nat_lt, cond, max, min, refl, sym, ap, ◌∙◌, subst, arith, List, [], ◌∷◌, All, length, ℤ, pos, negsuc, ◌+ℤ◌}
 use Rattle.std.proofs.lemmas.List.Elements.{All-head, All-tail}
 use Rattle.block_index.specs.Places.{Cube}
-use Rattle.block_index.specs.declared.wish.Wish.TheVariants.{Coarsen}
 use Rattle.block_fields.specs.Blocks.{BlockState, IsBlock, seen_at}
 use Rattle.block_fields.specs.BlockStates.{HoldsSamples, IsLeafOf}
 use Rattle.block_fields.specs.Samples.{sample_at}
@@ -92,15 +91,6 @@ module _ (n fields : ℕ) (s t : Samples) (e : Agree n fields s t) (x y z : ℕ)
       let c = across_z-same f k.known in
       λ i. slope_wish refine coarsen (o i) (a i) (b i) (c i)
   cell_wish-same (Contrast f refine coarsen) k = ap (number_wish refine coarsen) (contrast-same f k.known)
-
--- a box has no wish by cells
-none-Region : (n : ℕ) → wish_below n (λ x. Coarsen) ≡ Coarsen
-none-Region zero = refl
-none-Region (suc n) = ap (λ w. greater w Coarsen) (none-Region n)
-
-pub planes-Region : (n : ℕ) (s : Samples) (low high : List ℕ) (level z : ℕ) → plane_wish n s (Region low high level) z ≡ Coarsen
-planes-Region n s low high level z =
-    wish_below-same n (λ y. wish_below n (λ x. Coarsen)) (λ y. Coarsen) (λ y h. none-Region n) ∙ none-Region n
 
 -- the wish by a test of a field is the greatest of its cells
 pub cells-Mass : (n : ℕ) (s : Samples) (f refine coarsen : ℕ) (c : Cube) → test_wish n s (Mass f refine coarsen) c ≡ wish_below n (plane_wish n s (Mass f refine coarsen))

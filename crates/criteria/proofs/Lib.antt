@@ -1,8 +1,12 @@
 pub mod Agreeing
 pub mod CellRows
+pub mod FaceRows
+pub mod GreatestAmounts
 pub mod GreatestWishes
 pub mod MeshWishes
 pub mod Nearest
 pub mod PlaceLimits
 pub mod RowNumbers
+pub mod SampleLimits
+pub mod SteepCells
 pub mod Written

@@ -1,5 +1,5 @@
 -- Where the rows of a block and its shell lie in its lists.
-use Rattle.std.proofs.Common.{◌≡◌, ℕ, zero, suc, ◌+◌, ◌-◌, ◌*◌, ◌/◌, ◌%◌, ◌<◌, ◌≤◌, true, false, nat_lt, refl, sym, ap, ◌∙◌, subst, arith, get_or, ℤ, pos}
+use Rattle.std.proofs.Common.{◌≡◌, ℕ, zero, suc, ◌+◌, ◌-◌, ◌*◌, ◌/◌, ◌%◌, ◌<◌, ◌≤◌, true, false, nat_lt, refl, sym, ap, ◌∙◌, subst, arith, List, length, get_or, ℤ, pos}
 use Rattle.std.proofs.Math.Nat.{mul_comm}
 use Rattle.std.proofs.lemmas.Nat.{mul-add-lt, mul-le}
 use Rattle.std.proofs.lemmas.Bool.{cond-true, cond-false}
@@ -9,7 +9,7 @@ use Rattle.block_fields.specs.Shells.{IsAround, direction_of, number_around, pos
 use Rattle.block_fields.proofs.GhostWrites.{position-below, side-below}
 use Rattle.block_fields.proofs.ShellSizes.{length-most}
 use Rattle.criteria.specs.Samples.{before}
-use Rattle.criteria.specs.Lemmas.Rows.{box_size, cells_toward, row_number, row_side}
+use Rattle.criteria.specs.Lemmas.Rows.{HoldsCells, box_size, cells_toward, row_number, row_side}
 
 -- a coordinate next to the block lies around it
 pub beside-around : (n g u : ℕ) → 1 ≤ g → u < n + 2 → IsAround n g (before u)
@@ -86,3 +86,11 @@ pub seen-high : (b : BlockState) (f y z : ℕ) → seen_at b f (pos b.edge) (bef
 seen-high b f y z =
     seen-row b f (pos b.edge) y z 2 b.depth 0 (side-past b.edge) refl (position-past b.edge b.depth)
     ∙ ap (λ k. get_or (cells_toward b f (2 + 3 * row_side b.edge y z)) k 0) (let e : row_number b.edge b.depth y z * b.depth + 0 ≡ row_number b.edge b.depth y z * b.depth = omega arith in e)
+
+-- a row lies within the list of its side
+pub row-fits : (b : BlockState) (f y z number n : ℕ) (cells : List ℕ) → 1 ≤ b.depth → y < b.edge + 2 → z < b.edge + 2 → HoldsCells b f (1 + 3 * row_side b.edge y z) cells → number ≡ row_number b.edge b.depth y z → n ≡ b.edge → number * n + n ≤ length cells
+row-fits b f y z number n cells hg hy hz h e en =
+    let within : (row_number b.edge b.depth y z + 1) * b.edge ≤ box_size b.edge b.depth (1 + 3 * row_side b.edge y z) = row-within b.edge b.depth y z hg hy hz 1 (omega arith) in
+    let long : (number + 1) * n ≤ length cells = subst (λ k. k ≤ length cells) (λ i. (sym e i + 1) * sym en i) (subst (λ k. (row_number b.edge b.depth y z + 1) * b.edge ≤ k) (sym h.size) within) in
+    let parts : (number + 1) * n ≡ number * n + n = omega arith in
+    subst (λ k. k ≤ length cells) parts long

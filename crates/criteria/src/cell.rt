@@ -1,8 +1,9 @@
 //! The wish of one cell.
-ghost use Rattle.std.specs.Prelude.{◌≡◌, ◌↔◌, ◌≤◌, IsTrue};
+ghost use Rattle.std.specs.Prelude.{◌≡◌, ◌↔◌, ◌||◌, ◌≤◌, IsTrue};
 ghost use Rattle.block_index.specs.declared.wish.Wish.TheVariants.{Refine};
 ghost use Rattle.params_check.specs.Bounds.{greatest_slope};
-ghost use Rattle.criteria.specs.Lemmas.CellWishes.{number_wish, slope_wish};
+ghost use Rattle.criteria.specs.Cells.{is_steep};
+ghost use Rattle.criteria.specs.Lemmas.CellWishes.{number_wish};
 ghost use Rattle.criteria.specs.Samples.{most_amount};
 ghost use Rattle.criteria.specs.Wishes.{greater};
 
@@ -38,22 +39,15 @@ pub(crate) fn number_wish(refine: u64, coarsen: u64, q: u64) -> Wish
     }
 }
 
-/// The wish by an amount and the differences across it along three axes. The greatest of them decides.
-pub(crate) fn slope_wish(refine: u64, coarsen: u64, q: u64, dx: u64, dy: u64, dz: u64) -> Wish
-    requires refine { refine ≤ greatest_slope }
-    requires coarsen { coarsen ≤ greatest_slope }
+/// Whether the difference across an amount along one of three axes is steep. The greatest of them decides.
+pub(crate) fn is_steep(hundredths: u64, q: u64, dx: u64, dy: u64, dz: u64) -> bool
+    requires hundredths { hundredths ≤ greatest_slope }
     requires q { q ≤ most_amount }
     requires dx { dx ≤ most_amount }
     requires dy { dy ≤ most_amount }
     requires dz { dz ≤ most_amount }
-    ensures wish { result ≡ slope_wish refine coarsen q dx dy dz }
+    ensures steep { result ≡ (is_steep hundredths q dx || is_steep hundredths q dy || is_steep hundredths q dz) }
 {
     let steepest = 100 * dx.max(dy.max(dz));
-    if refine * q < steepest {
-        Wish::Refine
-    } else if steepest <= coarsen * q {
-        Wish::Coarsen
-    } else {
-        Wish::Stay
-    }
+    hundredths * q < steepest
 }

@@ -13,6 +13,21 @@ use crate::row::{LONGEST, row_at};
 use block_fields::Block;
 use block_index::Wish;
 
+/// The wish of a block, plane by plane.
+pub(crate) fn contrast_wish(block: &Block, field: u8, refine: u64, coarsen: u64) -> Wish
+    requires field { field < length block.now.amounts }
+    ensures wish { result ≡ wish_below block.now.edge (plane_wish block.now.edge (seen_at block.now) (Contrast field refine coarsen)) }
+{
+    let mut wish = Wish::Coarsen;
+    for z in 0..block.edge() {
+        wish = greater(wish, contrast_plane(block, field, refine, coarsen, z));
+        if is_refine(wish) {
+            return wish;
+        }
+    }
+    wish
+}
+
 /// For each cell of a row the greatest and the least of the three samples at it, below it and above it.
 #[derive(Clone, Copy)]
 struct Column {
@@ -38,7 +53,7 @@ fn column_at(block: &Block, field: u8, y: u16, z: u16) -> Column
 }
 
 /// The wish of a plane of cells.
-pub(crate) fn contrast_plane(block: &Block, field: u8, refine: u64, coarsen: u64, z: u16) -> Wish
+fn contrast_plane(block: &Block, field: u8, refine: u64, coarsen: u64, z: u16) -> Wish
     requires field { field < length block.now.amounts }
     requires z { z < block.now.edge }
     ensures wish { result ≡ plane_wish block.now.edge (seen_at block.now) (Contrast field refine coarsen) z }

@@ -1,18 +1,17 @@
 //! The wish of a block.
-ghost use Rattle.std.specs.Prelude.{◌≡◌, ℕ, ◌<◌, All, length};
+ghost use Rattle.std.specs.Prelude.{◌≡◌, ℕ, All, length};
 ghost use Rattle.block_fields.specs.Blocks.{seen_at};
 ghost use Rattle.block_fields.specs.BlockStates.{HoldsSamples, IsLeafOf};
 ghost use Rattle.block_fields.specs.States.{IsState, State};
 ghost use Rattle.params_check.specs.Limits.{KeepsCriterion, KeepsTest};
-ghost use Rattle.criteria.specs.Lemmas.CellWishes.{plane_wish, wish_below};
 ghost use Rattle.criteria.specs.Samples.{IsSmall};
 ghost use Rattle.criteria.specs.Wishes.{criteria_wish, test_wish, wish_of};
 
 use crate::box_test::box_wish;
 use crate::cell::{greater, is_refine};
-use crate::contrast::contrast_plane;
-use crate::mass::mass_plane;
-use crate::slope::slope_plane;
+use crate::contrast::contrast_wish;
+use crate::mass::mass_wish;
+use crate::slope::slope_wish;
 use block_fields::Block;
 use block_index::Wish;
 use params_check::{Criterion, Test};
@@ -57,52 +56,20 @@ fn test_wish(block: &Block, edge: u16, test: &Test) -> Wish
 {
     match test {
         Test::Region { low, high, level } => box_wish(edge, low, high, *level, block.place()),
-        Test::Mass { .. } => cells_wish(block, edge, test),
-        Test::Slope { .. } => cells_wish(block, edge, test),
-        Test::Contrast { .. } => cells_wish(block, edge, test),
-    }
-}
-
-/// The wish by a test of a field, plane by plane.
-fn cells_wish(block: &Block, edge: u16, test: &Test) -> Wish
-    requires edge { edge ≡ block.now.edge }
-    requires limits { KeepsTest (length block.now.amounts) test.now }
-    requires small { IsSmall block.now }
-    ensures wish { result ≡ wish_below block.now.edge (plane_wish block.now.edge (seen_at block.now) test.now) }
-{
-    let mut wish = Wish::Coarsen;
-    for z in 0..edge {
-        wish = greater(wish, plane_wish(block, test, z));
-        if is_refine(wish) {
-            return wish;
-        }
-    }
-    wish
-}
-
-/// The wish of a plane by a test of a field.
-fn plane_wish(block: &Block, test: &Test, z: u16) -> Wish
-    requires limits { KeepsTest (length block.now.amounts) test.now }
-    requires small { IsSmall block.now }
-    requires z { z < block.now.edge }
-    ensures wish { result ≡ plane_wish block.now.edge (seen_at block.now) test.now z }
-{
-    match test {
-        Test::Region { .. } => Wish::Coarsen,
         Test::Mass {
             field,
             refine,
             coarsen,
-        } => mass_plane(block, *field, *refine, *coarsen, z),
+        } => mass_wish(block, *field, *refine, *coarsen),
         Test::Slope {
             field,
             refine,
             coarsen,
-        } => slope_plane(block, *field, *refine, *coarsen, z),
+        } => slope_wish(block, *field, *refine, *coarsen),
         Test::Contrast {
             field,
             refine,
             coarsen,
-        } => contrast_plane(block, *field, *refine, *coarsen, z),
+        } => contrast_wish(block, *field, *refine, *coarsen),
     }
 }

@@ -2,7 +2,8 @@
 //!
 //! `wish` answers the wish of one block from its own amounts and its ghosts. Where the ghosts hold the samples of a
 //! state, it is that state's wish of the leaf. `specs/Wishes.antt` defines it over plain samples, `specs/Cells.antt` the
-//! tests of a cell. It makes one pass over a block for a criterion, and allocates nothing.
+//! tests of a cell. It makes one pass over a block for a criterion, where one plane of cells may be looked at twice, and
+//! allocates nothing.
 #![tactic(auto)]
 
 mod box_test;
@@ -10,6 +11,7 @@ mod cell;
 mod contrast;
 mod deciding;
 mod extremes;
+mod faces;
 mod laws;
 mod mass;
 mod row;

@@ -1,9 +1,9 @@
 //! The rows along x in a block and next to it. A row is named by two coordinates that are counted from one before the
 //! block's first cell.
-ghost use Rattle.std.specs.Prelude.{◌≡◌, ℕ, ◌+◌, ◌*◌, ◌<◌, ◌≤◌, length, slice_index, slice_range, pos};
+ghost use Rattle.std.specs.Prelude.{◌≡◌, ℕ, ◌+◌, ◌*◌, ◌<◌, ◌≤◌, length, pos};
 ghost use Rattle.block_fields.specs.Blocks.{IsBlock, seen_at};
 ghost use Rattle.block_fields.specs.Shells.{position_of, side_length, side_of};
-ghost use Rattle.criteria.specs.Lemmas.Rows.{HoldsRow, box_size, cells_toward, row_number, row_side};
+ghost use Rattle.criteria.specs.Lemmas.Rows.{HoldsCells, HoldsMiddle, HoldsRow, box_size, cells_toward, row_number, row_side};
 ghost use Rattle.criteria.specs.Samples.{before};
 
 use block_fields::Block;
@@ -83,7 +83,7 @@ fn row_of(n: u16, depth: u8, y: u16, z: u16) -> Row
 }
 
 /// The cells of a direction, the block's own among them.
-fn cells_toward(block: &Block, field: u8, direction: u8) -> &[u64]
+pub(crate) fn cells_toward(block: &Block, field: u8, direction: u8) -> &[u64]
     requires field { field < length block.now.amounts }
     requires direction { direction < 27 }
     ensures cells { result.now ≡ cells_toward block.now field direction }
@@ -96,19 +96,36 @@ fn cells_toward(block: &Block, field: u8, direction: u8) -> &[u64]
     }
 }
 
+/// The cells of the block's own columns in a row, by the list of its side and its number there.
+pub(crate) fn row_in<'a>(
+    block: &Block,
+    cells: &'a [u64],
+    field: u8,
+    y: u16,
+    z: u16,
+    number: usize,
+) -> &'a [u64]
+    requires y { y < block.now.edge + 2 }
+    requires z { z < block.now.edge + 2 }
+    requires cells { HoldsCells block.now field (1 + 3 * row_side block.now.edge y z) cells.now }
+    requires number { number ≡ row_number block.now.edge block.now.depth y z }
+    ensures row { HoldsMiddle block.now field y z result.now }
+{
+    let n = block.edge() as usize;
+    let start = number * n;
+    &cells[start..start + n]
+}
+
 /// The cells of the block's own columns in a row.
-pub(crate) fn middle_of(block: &Block, field: u8, y: u16, z: u16) -> &[u64]
+fn middle_of(block: &Block, field: u8, y: u16, z: u16) -> &[u64]
     requires field { field < length block.now.amounts }
     requires y { y < block.now.edge + 2 }
     requires z { z < block.now.edge + 2 }
-    ensures row { (x : ℕ) → x < block.now.edge → slice_index result.now x ≡ seen_at block.now field (pos x) (before y) (before z) }
-    ensures cells { length result.now ≡ block.now.edge }
+    ensures row { HoldsMiddle block.now field y z result.now }
 {
-    let n = block.edge();
-    let row = row_of(n, block.depth(), y, z);
+    let row = row_of(block.edge(), block.depth(), y, z);
     let cells = cells_toward(block, field, (1 + 3 * row.side) as u8);
-    let start = row.number * n as usize;
-    &cells[start..start + n as usize]
+    row_in(block, cells, field, y, z, row.number)
 }
 
 /// The cell before the block's own columns in a row.

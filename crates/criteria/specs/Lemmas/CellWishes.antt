@@ -1,11 +1,11 @@
 -- The wish of a block by a test as the greatest of the wishes of its cells.
-use Rattle.std.specs.Prelude.{ℕ, zero, suc, Bool, ◌&&◌, ◌||◌, cond, nat_le, nat_lt}
+use Rattle.std.specs.Prelude.{ℕ, zero, suc, max, Bool, ◌&&◌, ◌||◌, cond, nat_le, nat_lt}
 use Rattle.block_index.specs.declared.wish.Wish.{Wish}
 use Rattle.block_index.specs.declared.wish.Wish.TheVariants.{Coarsen, Stay, Refine}
 use Rattle.params_check.specs.declared.criterion.Test.{Test}
 use Rattle.params_check.specs.declared.criterion.Test.TheVariants.{Region, Mass, Slope, Contrast}
-use Rattle.criteria.specs.Cells.{own, across_x, across_y, across_z, contrast, is_steep, is_flat}
-use Rattle.criteria.specs.Samples.{Samples}
+use Rattle.criteria.specs.Cells.{own, across_x, across_y, across_z, contrast, is_steep, is_flat, some_below, some_steep}
+use Rattle.criteria.specs.Samples.{FieldSamples, Samples}
 use Rattle.criteria.specs.Wishes.{greater}
 
 -- the greatest of the first n wishes; Coarsen where there is none
@@ -40,3 +40,15 @@ row_wish n s test y z = wish_below n (λ x. cell_wish s test x y z)
 
 abbrev pub plane_wish : ℕ → Samples → Test → ℕ → Wish
 plane_wish n s test z = wish_below n (λ y. row_wish n s test y z)
+
+-- the greatest of the first n numbers; 0 where there is none
+abbrev pub greatest_below : ℕ → (ℕ → ℕ) → ℕ
+greatest_below zero q = 0
+greatest_below (suc n) q = max (greatest_below n q) (q n)
+
+-- whether some cell of a row, or of a plane, is steep
+abbrev pub steep_row : ℕ → FieldSamples → ℕ → ℕ → ℕ → Bool
+steep_row n s hundredths y z = some_below n (λ x. some_steep s hundredths x y z)
+
+abbrev pub steep_plane : ℕ → FieldSamples → ℕ → ℕ → Bool
+steep_plane n s hundredths z = some_below n (λ y. steep_row n s hundredths y z)

@@ -1,10 +1,10 @@
 -- The rows along x in a block and around it. A row is named by two coordinates that are counted from one before the
 -- block's first cell, so that none is negative.
-use Rattle.std.specs.Prelude.{◌≡◌, ℕ, ◌+◌, ◌*◌, ◌/◌, ◌%◌, ◌<◌, ◌≤◌, ◌==◌, cond, max, min, List, slice_index}
+use Rattle.std.specs.Prelude.{◌≡◌, ℕ, ◌+◌, ◌*◌, ◌/◌, ◌%◌, ◌<◌, ◌==◌, cond, max, min, List, length, slice_index, pos}
 use Rattle.block_fields.specs.Blocks.{BlockState, amounts_of, ghosts_of, seen_at}
 use Rattle.block_fields.specs.Shells.{position_of, side_length, side_of}
 use Rattle.criteria.specs.Cells.{greatest_near, least_near}
-use Rattle.criteria.specs.Samples.{before, most_amount}
+use Rattle.criteria.specs.Samples.{before}
 
 -- the side of a row: that of its first coordinate and thrice that of its second
 abbrev pub row_side : ℕ → ℕ → ℕ → ℕ
@@ -21,13 +21,19 @@ cells_toward b f d = cond (d == 13) (amounts_of b f) (ghosts_of b f d)
 abbrev pub box_size : ℕ → ℕ → ℕ → ℕ
 box_size n depth d = side_length n depth (d % 3) * side_length n depth (d / 3 % 3) * side_length n depth (d / 9)
 
+-- a list holds the cells of a direction
+pub record HoldsCells (b : BlockState) (f d : ℕ) (cells : List ℕ) : Type 0 where
+  pub toward : cells ≡ cells_toward b f d
+  pub size : length cells ≡ box_size b.edge b.depth d
+
 -- a list holds a row from the cell before the block's first to the one past its last
 abbrev pub HoldsRow : BlockState → ℕ → ℕ → ℕ → List ℕ → Type 0
 HoldsRow b f y z row = (x : ℕ) → x < b.edge + 2 → slice_index row x ≡ seen_at b f (before x) (before y) (before z)
 
--- the first n numbers of a list are no more than a sample may be
-abbrev pub AreSmall : ℕ → List ℕ → Type 0
-AreSmall n row = (x : ℕ) → x < n → slice_index row x ≤ most_amount
+-- a list holds the block's own columns of a row
+pub record HoldsMiddle (b : BlockState) (f y z : ℕ) (row : List ℕ) : Type 0 where
+  pub cells : length row ≡ b.edge
+  pub seen : (x : ℕ) → x < b.edge → slice_index row x ≡ seen_at b f (pos x) (before y) (before z)
 
 -- the greatest and the least of three numbers from one on
 abbrev pub greatest_three : (ℕ → ℕ) → ℕ → ℕ

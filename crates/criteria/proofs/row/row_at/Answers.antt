@@ -24,5 +24,5 @@ returns-clause-row c x h =
     let edge = c.edge-n.ensures.edge in
     let long : c.edge-n.result + 1 < length c.loop-x.row = omega arith in
     written-ends P c.loop-x.row c.edge-n.result c.low_end.result c.high_end.result long c.loop-x.invariant.first c.low_end.ensures.seen
-    (λ k hk. c.loop-x.invariant.cells k (omega arith) ∙ c.middle_of-middle.ensures.row k (omega arith))
+    (λ k hk. c.loop-x.invariant.cells k (omega arith) ∙ c.middle_of-middle.ensures.row.seen k (omega arith))
     (c.high_end.ensures.seen ∙ ap (λ n. P (suc n)) (sym edge)) x (omega arith)
