@@ -50,7 +50,7 @@ one_source_of r q h k e f =
 source-self : (a : Source) → is_same_source a a ≡ true
 source-self a = and_from (a.direction == a.direction) (a.sender == a.sender) (eq-eqb a.direction a.direction refl) (eq-eqb a.sender a.sender refl)
 
-source-same : (a c : Source) → is_same_source a c ≡ true → a ≡ c
+pub source-same : (a c : Source) → is_same_source a c ≡ true → a ≡ c
 source-same a c e =
     let p = and_parts (a.direction == c.direction) (a.sender == c.sender) e in
     ap (λ u. record { direction = u; sender = a.sender }) (eqb-true a.direction c.direction p.0)

@@ -16,6 +16,7 @@ pub mod Pieces
 pub mod BoxLaw
 pub mod PieceFacts
 pub mod FiledLists
+pub mod NotedDirections
 pub mod ShellAxes
 pub mod Pastes
 pub mod FiledShells
@@ -26,6 +27,7 @@ pub mod SentBounds
 pub mod Rows
 pub mod PieceParts
 pub mod FillSteps
+pub mod CopiedBoxes
 pub mod SampleSteps
 pub mod Directions
 pub mod OwedSteps

@@ -5,3 +5,4 @@ pub mod Parts
 pub mod Rows
 pub mod FiledFields
 pub mod Fills
+pub mod Noted

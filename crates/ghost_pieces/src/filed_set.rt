@@ -34,10 +34,24 @@ fn is_same_source(a: Source, c: Source) -> bool
     a.direction == c.direction && a.sender == c.sender
 }
 
+/// Whether a region stands in a list.
+fn is_listed(sources: &[Source], source: Source) -> bool
+    ensures listed { result ≡ list_any (is_same_source source) sources.now }
+{
+    for other in sources {
+        if is_same_source(source, *other) {
+            return true;
+        }
+    }
+    false
+}
+
 /// The regions of a block that are filed, with room for all that there can be.
 #[derive(Drop)]
 pub struct FiledSet {
     sources: ArrayVec<Source, MOST_REGIONS>,
+    /// Of the number of each direction, whether one of them is in it: most often none is yet where a piece comes.
+    noted: [bool; 27],
 }
 
 impl Model for FiledSet {
@@ -46,7 +60,11 @@ impl Model for FiledSet {
 
     ghost Value = { List Source };
 
+    ghost use Rattle.ghost_pieces.specs.Lemmas.Noted.{AreNoted};
+
     ghost view = { λ t. t.sources.items };
+
+    ghost invariant = { λ t. AreNoted t.noted t.sources.items };
 }
 
 impl FiledSet {
@@ -56,6 +74,7 @@ impl FiledSet {
     {
         FiledSet {
             sources: ArrayVec::new(),
+            noted: [false; 27],
         }
     }
 
@@ -68,21 +87,22 @@ impl FiledSet {
 
     /// Whether a region is filed.
     pub(crate) fn has(&self, source: Source) -> bool
+        requires direction { source.direction < 27 }
         ensures filed { result ≡ list_any (is_same_source source) self.now }
     {
-        for other in self.sources.as_slice() {
-            if is_same_source(source, *other) {
-                return true;
-            }
+        if !self.noted[source.direction as usize] {
+            return false;
         }
-        false
+        is_listed(self.sources.as_slice(), source)
     }
 
     /// Puts a region behind the others.
     pub(crate) fn add(&mut self, source: Source)
         requires room { length self.old < most_regions }
+        requires direction { source.direction < 27 }
         ensures items { self.new ≡ self.old ++ source ∷ [] }
     {
+        self.noted[source.direction as usize] = true;
         self.sources.push(source);
     }
 }

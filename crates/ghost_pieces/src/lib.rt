@@ -7,6 +7,7 @@
 #![tactic(auto)]
 
 mod axis_parts;
+mod copied_boxes;
 mod counts;
 mod filed_set;
 mod filing;

@@ -1,5 +1,5 @@
 use Rattle.ghost_pieces.specs.Lemmas.Fills.{FillsPlanes, box_sample}
-use Rattle.ghost_pieces.proofs.filled_boxes.fill_box.Given as goal
+use Rattle.ghost_pieces.proofs.filled_boxes.fill_planes.Given as goal
 
 abbrev pub invariant-loop-k : goal.invariant-loop-k
 invariant-loop-k l =

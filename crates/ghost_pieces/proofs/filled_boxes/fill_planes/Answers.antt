@@ -4,7 +4,7 @@ use Rattle.ghost_pieces.specs.Lemmas.Fills.{FillsPlane, FillsPlanes, box_sample}
 use Rattle.ghost_pieces.specs.Lemmas.Parts.{further}
 use Rattle.ghost_pieces.proofs.FillSteps.{box_filled, plane_filled}
 use Rattle.ghost_pieces.proofs.RowWrites.{rows_room}
-use Rattle.ghost_pieces.proofs.filled_boxes.fill_box.Goals as goal
+use Rattle.ghost_pieces.proofs.filled_boxes.fill_planes.Goals as goal
 
 pub fill_plane-requires-clause-room : goal.fill_plane-requires-clause-room
 fill_plane-requires-clause-room c j h =
