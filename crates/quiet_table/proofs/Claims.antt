@@ -19,7 +19,8 @@ use Rattle.quiet_table.specs.Told.{claimed}
 use Rattle.quiet_table.specs.BoardRule.{Numbered, IsOut, Fits, AtHome, BoardRule}
 use Rattle.quiet_table.proofs.Legal.{held_legal}
 use Rattle.quiet_table.proofs.Pools.{span_set}
-use Rattle.quiet_table.proofs.Counting.{SameCounts, uncounted_same, uncounted_split, stops_at_least, stops_more, waves_new, counts_turn, counts_stay, counts_split}
+use Rattle.quiet_table.proofs.SeatSums.{uncounted_same, uncounted_split, stops_at_least, stops_more, handles_same, handles_split}
+use Rattle.quiet_table.proofs.Counting.{SameCounts, waves_new, counts_turn, counts_stay, counts_split}
 
 pub true_false : true ≡ false → ⊥
 true_false e = cc
@@ -41,7 +42,7 @@ at_last_or (x ∷ xs) a b (suc j) e = ⊎_elim (λ (t : get_elem? xs j ≡ some 
 
 module _ {R E : Type 0} where
   -- a seat's number, its splits and that it is live stay
-  pub numbered_stays : (views : List (View R E)) (id : ℕ) (v w : View R E) → get_elem? views id ≡ some v → w.live ≡ v.live → w.number ≡ v.number → w.splits ≡ v.splits → w.joins ≡ v.joins → (v.live ≡ false → w.stops ≡ v.stops) → Numbered views → Numbered (set views id w)
+  pub numbered_stays : (views : List (View R E)) (id : ℕ) (v w : View R E) → get_elem? views id ≡ some v → w.live ≡ v.live → w.number ≡ v.number → w.splits ≡ v.splits → w.joins ≡ v.joins → (v.live ≡ false → (w.stops ≡ v.stops) × (w.handled ≡ v.handled)) → Numbered views → Numbered (set views id w)
   numbered_stays views id v w at live number splits joins calm n =
       let old : (j : ℕ) (x : View R E) → get_elem? (set views id w) j ≡ some x → (y : View R E) × (get_elem? views j ≡ some y) × (x.live ≡ y.live) × (x.number ≡ y.number) × (x.splits ≡ y.splits) × (x.joins ≡ y.joins) =
       λ j x e. ⊎_elim (λ (t : (j ≡ id) × (w ≡ x)). (v, ap (get_elem? views) t.0 ∙ at, ap (λ (z : View R E). z.live) (sym t.1) ∙ live, ap (λ (z : View R E). z.number) (sym t.1) ∙ number, ap (λ (z : View R E). z.splits) (sym t.1) ∙ splits, ap (λ (z : View R E). z.joins) (sym t.1) ∙ joins))
@@ -51,7 +52,7 @@ module _ {R E : Type 0} where
         gone = n.gone;
         few = n.few;
         among = λ j x e l. let o = old j x e in let m = n.among j o.0 o.1 (sym o.2 ∙ l) in (subst (λ z. z ≤ n.most) (sym o.3) m.0, (λ z. let a = m.1 (sym o.3 ∙ z) in (o.4 ∙ a.0, o.5 ∙ a.1)), λ z. let a = m.2 (λ q. z (o.3 ∙ q)) in (o.4 ∙ a.0, subst (λ (y : ℕ). n.gone < y) (sym o.3) a.1));
-        spent = λ j x e l. ⊎_elim (λ (t : (j ≡ id) × (w ≡ x)). let dead : v.live ≡ false = sym live ∙ (ap (λ (z : View R E). z.live) t.1 ∙ l) in ap (λ (z : View R E). z.stops) (sym t.1) ∙ (calm dead ∙ n.spent id v at dead)) (λ (t : (j ≢ id) × (get_elem? views j ≡ some x)). n.spent j x t.1 l) (at_set views id j w x e);
+        spent = λ j x e l. ⊎_elim (λ (t : (j ≡ id) × (w ≡ x)). let dead : v.live ≡ false = sym live ∙ (ap (λ (z : View R E). z.live) t.1 ∙ l) in let same = calm dead in let none = n.spent id v at dead in (ap (λ (z : View R E). z.stops) (sym t.1) ∙ (same.0 ∙ none.0), ap (λ (z : View R E). z.handled) (sym t.1) ∙ (same.1 ∙ none.1))) (λ (t : (j ≢ id) × (get_elem? views j ≡ some x)). n.spent j x t.1 l) (at_set views id j w x e);
         apart = λ i j x y e f l m same. let o = old i x e in let p = old j y f in n.apart i j o.0 p.0 o.1 p.1 (sym o.2 ∙ l) (sym p.2 ∙ m) (sym o.3 ∙ (same ∙ p.3));
       }
 
@@ -135,7 +136,7 @@ module _ {C B R E O : Type 0} (contents : Item C B → Contents R E) (legal : Li
         wide = length-set s.words k (v.number + 1) ∙ r.wide;
         deep = length-set s.homes k none ∙ r.deep;
         full = r.full;
-        numbered = numbered_stays s.views id v w at refl refl refl refl (λ _. refl) r.numbered;
+        numbered = numbered_stays s.views id v w at refl refl refl refl (λ _. (refl, refl)) r.numbered;
         each_slot = λ j l. dite (ℕ_discrete j k)
             (λ e. inr (id, w, 0, hand_of k (contents i), own, refl, sym e))
             (λ n. ⊎_elim (λ (t : AtHome contents shards s r.settled j). inl (t.0, get_or-set_other s.words k j (v.number + 1) 0 n ∙ t.1, set_else s.homes k j none n ∙ t.2, t.3, t.4))
@@ -149,6 +150,7 @@ module _ {C B R E O : Type 0} (contents : Item C B → Contents R E) (legal : Li
             (λ (t : (j ≢ id) × (get_elem? s.views j ≡ some x)). r.apart j x a b g h t.1 f1 f2 same)
             (at_set s.views id j w x e);
         legal_now = rw (span_set s.words (3 * shards) shards k (v.number + 1) (omega arith), uncounted_same s.views id v w at refl) r.legal_now;
+        handled = span_set s.words (3 * shards) shards k (v.number + 1) (omega arith) ∙ (r.handled ∙ handles_same s.views id v w at refl);
         counts = counts_turn shards s.words s.views _ k (v.number + 1) id v w at (record { count = refl; one = refl; two = refl; saw = refl }) within r.counts;
         stopped = λ q. stops_at_least s.views id v w at (omega arith) (r.stopped (sym (get_or-set_other s.words k (4 * shards) (v.number + 1) 0 (λ e. omega arith)) ∙ q));
         same_origin = r.same_origin;
@@ -167,16 +169,16 @@ module _ {C B R E O : Type 0} (contents : Item C B → Contents R E) (legal : Li
       own_apart (suc a) (suc b) g h e f same = ap suc (r.apart id v a b g h at e f same)
 
   -- a step that changes no word, and in its seat's view only what the rule does not read
-  pub claim_miss : (s : State S (View R E)) (r : Rule s) (id k : ℕ) (v w : View R E) → get_elem? s.views id ≡ some v → w.live ≡ v.live → w.number ≡ v.number → w.splits ≡ v.splits → w.joins ≡ v.joins → w.stops ≡ v.stops → w.hands ≡ v.hands → SameCounts v w
+  pub claim_miss : (s : State S (View R E)) (r : Rule s) (id k : ℕ) (v w : View R E) → get_elem? s.views id ≡ some v → w.live ≡ v.live → w.number ≡ v.number → w.splits ≡ v.splits → w.joins ≡ v.joins → w.stops ≡ v.stops → w.handled ≡ v.handled → w.hands ≡ v.hands → SameCounts v w
       → Rule record { words = set s.words k (get_or s.words k 0); homes = s.homes; views = set s.views id w }
-  claim_miss s r id k v w at live number splits joins same_stops hands same_counts =
+  claim_miss s r id k v w at live number splits joins same_stops same_handled hands same_counts =
       subst (λ (ws : List ℕ). Rule record { words = ws; homes = s.homes; views = set s.views id w }) (sym (set-get_or s.words k 0)) record {
         settled = r.settled;
         some_shard = r.some_shard;
         wide = r.wide;
         deep = r.deep;
         full = r.full;
-        numbered = numbered_stays s.views id v w at live number splits joins (λ _. same_stops) r.numbered;
+        numbered = numbered_stays s.views id v w at live number splits joins (λ _. (same_stops, same_handled)) r.numbered;
         each_slot = λ j l. ⊎_elim (λ (t : AtHome contents shards s r.settled j). inl t)
             (λ (t : IsOut s.views j). inr (out_stays s.views id v w j at (λ a h x y. (a, h, ap (λ z. get_elem? z a) hands ∙ x, y)) t)) (r.each_slot j l);
         each_hand = λ j x a h e f. ⊎_elim
@@ -189,6 +191,7 @@ module _ {C B R E O : Type 0} (contents : Item C B → Contents R E) (legal : Li
             (λ (t : (j ≢ id) × (get_elem? s.views j ≡ some x)). r.apart j x a b g h t.1 f1 f2 same)
             (at_set s.views id j w x e);
         legal_now = rw (uncounted_same s.views id v w at same_counts.count) r.legal_now;
+        handled = r.handled ∙ handles_same s.views id v w at same_handled;
         counts = counts_stay shards s.words s.views _ id v w at same_counts r.counts;
         stopped = λ q. stops_at_least s.views id v w at (omega arith) (r.stopped q);
         same_origin = r.same_origin;
@@ -217,7 +220,7 @@ module _ {C B R E O : Type 0} (contents : Item C B → Contents R E) (legal : Li
         w,
         keeps,
         tt,
-        subst (λ b. Rule (stepped s k (either b (v.number + 1) n) id me.1 w keeps)) (sym (ne_eqb n 0 miss)) (claim_miss s r id k v w at refl refl refl refl refl refl (record { count = refl; one = refl; two = refl; saw = refl })),
+        subst (λ b. Rule (stepped s k (either b (v.number + 1) n) id me.1 w keeps)) (sym (ne_eqb n 0 miss)) (claim_miss s r id k v w at refl refl refl refl refl refl refl (record { count = refl; one = refl; two = refl; saw = refl })),
         (λ o e. subst (λ (z : O). InLegal legal origin (2 * shards) z w.hands) (ap (λ l. first_or from l) (sym picked ∙ e)) (held_legal contents legal origin any_order shards from s r id v at), (λ hit. absurd (miss hit)), λ _. ((λ own. others s r id v k n at live free within own miss refl), refl)),
       ))
     where
@@ -266,6 +269,7 @@ module _ {C B R E O : Type 0} (contents : Item C B → Contents R E) (legal : Li
             (λ (p : o ≡ x). absurd (some-ne-none g (sym f1 ∙ ap (λ (z : View R E). get_elem? z.hands a) (sym p) ∙ nothing a)))
             (at_snoc views o x j e);
         legal_now = rw (uncounted_split s.views id v w o at refl refl) r.legal_now;
+        handled = r.handled ∙ handles_split s.views id v w o at refl refl;
         counts = counts_split shards s.words s.views _ id v w o at (record { count = refl; one = refl; two = refl; saw = refl }) refl (waves_new shards s.words _ _ o r.some_shard refl refl refl) r.counts;
         stopped = λ q. let a = stops_at_least s.views id v w at (omega arith) (r.stopped q) in let b = stops_more views o in omega arith;
         same_origin = r.same_origin;

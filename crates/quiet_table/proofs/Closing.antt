@@ -11,21 +11,12 @@ use Rattle.quiet_table.specs.declared.view.Hand.{Hand}
 use Rattle.quiet_table.specs.declared.view.View.{View}
 use Rattle.quiet_table.specs.declared.item.Item.{Item}
 use Rattle.quiet_table.specs.Contents.{Contents, opening_contents}
-use Rattle.quiet_table.specs.BoardRule.{stops, uncounted, IsOut, AtHome, BoardRule}
+use Rattle.quiet_table.specs.BoardRule.{stops, handles, uncounted, IsOut, AtHome, BoardRule}
 use Rattle.quiet_table.specs.Shut.{Shut}
+use Rattle.quiet_table.proofs.SeatSums.{stops_one, handles_one}
 
 none_some : {A : Type 0} (a : A) (x : maybe.Option A) → x ≡ none → x ≡ some a → ⊥
 none_some a x e f = some-ne-none a (sym f ∙ e)
-
-no_stops : {R E : Type 0} (views : List (View R E)) → ((j : ℕ) (x : View R E) → get_elem? views j ≡ some x → x.stops ≡ 0) → stops views ≡ 0
-no_stops [] none_of = refl
-no_stops (x ∷ xs) none_of = let a = none_of 0 x refl in let r = no_stops xs (λ j y e. none_of (suc j) y e) in omega (arith, a, r)
-
--- the stops of the one view that has any
-one_stops : {R E : Type 0} (views : List (View R E)) (id : ℕ) (v : View R E) → get_elem? views id ≡ some v → ((j : ℕ) (x : View R E) → get_elem? views j ≡ some x → j ≢ id → x.stops ≡ 0) → stops views ≡ v.stops
-one_stops [] id v at others = absurd (none_some v _ refl at)
-one_stops {R} {E} (x ∷ xs) zero v at others = let q : x.stops ≡ v.stops = ap (λ (z : View R E). z.stops) (some-injective x v at) in let r = no_stops xs (λ j y e. others (suc j) y e (λ z. absurd (omega arith))) in omega (arith, q, r)
-one_stops (x ∷ xs) (suc id) v at others = let a = others 0 x refl (λ z. absurd (omega arith)) in let r = one_stops xs id v at (λ j y e n. others (suc j) y e (λ z. n (omega arith))) in omega (arith, a, r)
 
 module _ {C B R E : Type 0} (contents : Item C B → Contents R E) where
   -- slots that have the settled contents
@@ -53,7 +44,7 @@ module _ {C B R E : Type 0} (contents : Item C B → Contents R E) where
     no_hand_in (x ∷ xs) a h e f = absurd cc
 
     -- where the one live seat holds nothing, each slot is at home
-    pub closes : (words : List ℕ) (slots : List S) (id : ℕ) (v : View R E) → v.live ≡ true → v.number ≡ 0 → v.hands ≡ [] → v.splits ≡ v.joins → Final (Seen Rule id v) words slots → Shut contents legal origin shards from words slots v.seen v.stops
+    pub closes : (words : List ℕ) (slots : List S) (id : ℕ) (v : View R E) → v.live ≡ true → v.number ≡ 0 → v.hands ≡ [] → v.splits ≡ v.joins → Final (Seen Rule id v) words slots → Shut contents legal origin shards from words slots v.seen v.stops v.handled
     closes words slots id v live zeroth bare joined f =
         let s : State S (View R E) = f.0 in
         let r : Rule s = f.1.0 in
@@ -72,7 +63,9 @@ module _ {C B R E : Type 0} (contents : Item C B → Contents R E) where
         let deep = r.deep in let full = r.full in let long = f.3 in
         let long' : length slots ≡ 2 * shards = sym f.3 ∙ r.deep in
         let contents_are : opening_contents contents slots ≡ r.settled = same_contents slots r.settled (long' ∙ sym r.full) (λ k l. let h = home k (omega arith) in (h.0, f.4 k (Some h.0) h.2, h.4)) in
-        let total : stops s.views ≡ v.stops = one_stops s.views id v at (λ j x e ne. ⊎_elim (λ (l : x.live ≡ true). absurd (ne (alone j x e l))) (λ (l : x.live ≡ false). n.spent j x e l) (cases_Bool x.live)) in
+        let spent : (j : ℕ) (x : View R E) → get_elem? s.views j ≡ some x → j ≢ id → (x.stops ≡ 0) × (x.handled ≡ 0) = λ j x e ne. ⊎_elim (λ (l : x.live ≡ true). absurd (ne (alone j x e l))) (λ (l : x.live ≡ false). n.spent j x e l) (cases_Bool x.live) in
+        let total : stops s.views ≡ v.stops = stops_one s.views id v at (λ j x e ne. (spent j x e ne).0) in
+        let counted : handles s.views ≡ v.handled = handles_one s.views id v at (λ j x e ne. (spent j x e ne).1) in
         let wv = r.counts.waves id v at in
         record {
           wide = ap (λ l. length l) (sym same_words) ∙ r.wide;
@@ -83,6 +76,7 @@ module _ {C B R E : Type 0} (contents : Item C B → Contents R E) where
           same_origin = rw contents_are r.same_origin;
           verdict = rw (sym same_words) r.counts.verdict;
           quiet = rw (contents_are, sym same_words) r.counts.quiet;
+          handled = rw (sym same_words) (r.handled ∙ counted);
           stops_counted = rw (sym same_words) (λ q. let z = r.stopped q in omega arith);
           saw = rw (sym same_words) wv.saw;
         }

@@ -2,42 +2,16 @@
 use Rattle.std.proofs.Common.{◌≡◌, ◌≢◌, ℕ, zero, suc, ◌+◌, ◌-◌, ◌*◌, ◌<◌, ◌≤◌, List, [], ◌∷◌, ◌++◌, length, set, get_or, take, sym, refl, ap, ◌∙◌, subst, ⊎_elim, inl, inr, arith, length-append, get_or-set_other, get_or-set_same}
 use mathlib.Core.Logic.{dite}
 use native.Mathlib.Decide.{ℕ_discrete, dec_le}
-use mathlib.Core.Option.{some, some-injective, some-ne-none}
+use mathlib.Core.Option.{some, some-ne-none}
 use lib.ListN.{get_elem?}
 use Rattle.atomic_table.proofs.Lists.{at_set, at_snoc}
 use Rattle.quiet_table.specs.declared.view.View.{View}
 use Rattle.quiet_table.specs.Words.{adds, span}
-use Rattle.quiet_table.specs.BoardRule.{uncounted, stops, reach, Waves, Counts}
+use Rattle.quiet_table.specs.BoardRule.{uncounted, reach, Waves, Counts}
+use Rattle.quiet_table.proofs.SeatSums.{uncounted_set, uncounted_more, uncounted_same}
 use Rattle.quiet_table.proofs.Spans.{span_front, span_set_in, span_set_out, less_or, within_of, adds_more, length_take, take_get, last_or, span_last, span_mono, adds_le}
 
 module _ {R E : Type 0} where
-  pub uncounted_set : (views : List (View R E)) (id : ℕ) (v w : View R E) → get_elem? views id ≡ some v → uncounted (set views id w) + v.uncounted ≡ uncounted views + w.uncounted
-  uncounted_set [] id v w at = absurd (some-ne-none v (sym at))
-  uncounted_set (x ∷ xs) zero v w at = let q : x.uncounted ≡ v.uncounted = ap (λ (z : View R E). z.uncounted) (some-injective x v at) in omega arith
-  uncounted_set (x ∷ xs) (suc id) v w at = let r = uncounted_set xs id v w at in omega (arith, r)
-
-  pub uncounted_more : (views : List (View R E)) (o : View R E) → uncounted (views ++ o ∷ []) ≡ uncounted views + o.uncounted
-  uncounted_more [] o = omega arith
-  uncounted_more (x ∷ xs) o = let r = uncounted_more xs o in omega (arith, r)
-
-  pub uncounted_same : (views : List (View R E)) (id : ℕ) (v w : View R E) → get_elem? views id ≡ some v → w.uncounted ≡ v.uncounted → uncounted (set views id w) ≡ uncounted views
-  uncounted_same views id v w at q = let r = uncounted_set views id v w at in omega arith
-
-  pub uncounted_split : (views : List (View R E)) (id : ℕ) (v w o : View R E) → get_elem? views id ≡ some v → w.uncounted ≡ v.uncounted → o.uncounted ≡ 0 → uncounted (set views id w ++ o ∷ []) ≡ uncounted views
-  uncounted_split views id v w o at q blank = let r = uncounted_set views id v w at in let p = uncounted_more (set views id w) o in omega arith
-
-  pub stops_set : (views : List (View R E)) (id : ℕ) (v w : View R E) → get_elem? views id ≡ some v → stops (set views id w) + v.stops ≡ stops views + w.stops
-  stops_set [] id v w at = absurd (some-ne-none v (sym at))
-  stops_set (x ∷ xs) zero v w at = let q : x.stops ≡ v.stops = ap (λ (z : View R E). z.stops) (some-injective x v at) in omega arith
-  stops_set (x ∷ xs) (suc id) v w at = let r = stops_set xs id v w at in omega (arith, r)
-
-  pub stops_more : (views : List (View R E)) (o : View R E) → stops (views ++ o ∷ []) ≡ stops views + o.stops
-  stops_more [] o = omega arith
-  stops_more (x ∷ xs) o = let r = stops_more xs o in omega (arith, r)
-
-  pub stops_at_least : (views : List (View R E)) (id : ℕ) (v w : View R E) → get_elem? views id ≡ some v → v.stops ≤ w.stops → 1 ≤ stops views → 1 ≤ stops (set views id w)
-  stops_at_least views id v w at more some_stop = let r = stops_set views id v w at in omega arith
-
   -- a new seat has read nothing
   pub waves_new : (shards : ℕ) (words : List ℕ) (flight n : ℕ) (o : View R E) → 0 < shards → o.first ≡ [] → o.second ≡ [] → o.seen ≡ 0 → Waves shards words flight n o
   waves_new shards words flight n o h e f g = record {

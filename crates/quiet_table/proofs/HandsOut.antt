@@ -1,5 +1,5 @@
 -- The slots that are out are those of the hands.
-use Rattle.std.proofs.Common.{◌≡◌, ℕ, ◌+◌, ◌-◌, ◌≤◌, arith, ◌∙◌, List, [], ◌∷◌, refl, ap, sym, Option, None}
+use Rattle.std.proofs.Common.{◌≡◌, ℕ, ◌+◌, ◌-◌, ◌≤◌, true, arith, ◌∙◌, List, [], ◌∷◌, refl, ap, sym, Option, None}
 use Rattle.atomic_table.specs.Table.{rest, Me}
 use Rattle.quiet_table.specs.declared.view.Hand.{Hand}
 use Rattle.quiet_table.specs.declared.view.View.{View}
@@ -28,9 +28,13 @@ module _ (C B : Type 0) {R E : Type 0} where
   pub count_enough : (v : View R E) (out : List (ℕ × Option (Item C B))) (m : Me (Option (Item C B)) (View R E)) (r : R) (es : List E) (handled : ℕ) → m ≡ (turned handled r es v, out) → handled ≤ m.0.uncounted
   count_enough v out m r es handled e = let q = ap (λ (z : Me (Option (Item C B)) (View R E)). z.0.uncounted) e in omega arith
 
+  -- the first step of a count keeps that the seat is live
+  pub count_live : (v : View R E) (out : List (ℕ × Option (Item C B))) (m : Me (Option (Item C B)) (View R E)) (r : R) (es : List E) (handled : ℕ) → m ≡ (turned handled r es v, out) → v.live ≡ true → m.0.live ≡ true
+  count_live v out m r es handled e live = ap (λ (z : Me (Option (Item C B)) (View R E)). z.0.live) e ∙ live
+
   -- the two steps of a count
-  pub count_done : (v : View R E) (out : List (ℕ × Option (Item C B))) (m m' : Me (Option (Item C B)) (View R E)) (r : R) (es : List E) (handled : ℕ) → m ≡ (turned handled r es v, out) → m' ≡ (record m.0 { uncounted = m.0.uncounted - handled }, m.1)
-      → m' ≡ (record v { hands = recarried r es v.hands }, out)
+  pub count_done : (v : View R E) (out : List (ℕ × Option (Item C B))) (m m' : Me (Option (Item C B)) (View R E)) (r : R) (es : List E) (handled : ℕ) → m ≡ (turned handled r es v, out) → m' ≡ (record m.0 { uncounted = m.0.uncounted - handled; handled = m.0.handled + handled }, m.1)
+      → m' ≡ (record v { hands = recarried r es v.hands; handled = v.handled + handled }, out)
   count_done v out m m' r es handled e f =
       let back : (v.uncounted + handled) - handled ≡ v.uncounted = omega arith in
-      f ∙ (ap (λ (z : Me (Option (Item C B)) (View R E)). (record z.0 { uncounted = z.0.uncounted - handled }, z.1)) e ∙ ap (λ (n : ℕ). (record v { hands = recarried r es v.hands; uncounted = n }, out)) back)
+      f ∙ (ap (λ (z : Me (Option (Item C B)) (View R E)). (record z.0 { uncounted = z.0.uncounted - handled; handled = z.0.handled + handled }, z.1)) e ∙ ap (λ (n : ℕ). (record v { hands = recarried r es v.hands; uncounted = n; handled = v.handled + handled }, out)) back)

@@ -9,8 +9,9 @@ use Rattle.quiet_table.specs.declared.view.View.{View}
 use Rattle.quiet_table.specs.declared.item.Item.{Item}
 use Rattle.quiet_table.specs.Contents.{Contents, pool, parcels_of}
 use Rattle.quiet_table.specs.Views.{either_seen, spent_view, joined_view}
-use Rattle.quiet_table.specs.BoardRule.{IsOut, Fits, AtHome, BoardRule, Waves, uncounted}
-use Rattle.quiet_table.proofs.Counting.{uncounted_same, stops_set, waves_new}
+use Rattle.quiet_table.specs.BoardRule.{IsOut, Fits, AtHome, BoardRule, Waves, uncounted, handles}
+use Rattle.quiet_table.proofs.SeatSums.{uncounted_same, stops_set, handles_set}
+use Rattle.quiet_table.proofs.Counting.{waves_new}
 use Rattle.quiet_table.proofs.Claims.{true_false, at_within, out_stays}
 
 no_hand : {R E : Type 0} (a : ℕ) (h : Hand R E) → get_elem? {A = Hand R E} [] a ≡ some h → ⊥
@@ -56,6 +57,8 @@ module _ {C B R E O : Type 0} (contents : Item C B → Contents R E) (legal : Li
       let un : uncounted two ≡ uncounted s.views = un2 ∙ un1 in
       let st1 = stops_set s.views id v b at in
       let st2 = stops_set one other w d there in
+      let ha1 = handles_set s.views id v b at in
+      let ha2 = handles_set one other w d there in
       let flight : ℕ = length (pool (map parcels_of r.settled)) in
       let wv = r.counts.waves id v at in
       let ww = r.counts.waves other w there0 in
@@ -79,7 +82,7 @@ module _ {C B R E O : Type 0} (contents : Item C B → Contents R E) (legal : Li
                 λ z. let a = m.2 z in (a.0, let ne : x.number ≢ w.number = λ q. u.0 (n.apart j other x w u.2 there0 l live2 q) in let g = kept.1 in let h = a.1 in omega arith),
               ))
               t) (cases j x e);
-          spent = λ j x e l. ⊎_elim (λ (t : (j ≡ other) × (d ≡ x)). ap (λ (z : View R E). z.stops) (sym t.1))
+          spent = λ j x e l. ⊎_elim (λ (t : (j ≡ other) × (d ≡ x)). (ap (λ (z : View R E). z.stops) (sym t.1), ap (λ (z : View R E). z.handled) (sym t.1)))
               (λ (t : ((j ≡ id) × (b ≡ x)) ⊎ ((j ≢ other) × (j ≢ id) × (get_elem? s.views j ≡ some x))). ⊎_elim
               (λ (u : (j ≡ id) × (b ≡ x)). absurd (true_false (sym live ∙ (ap (λ (z : View R E). z.live) u.1 ∙ l))))
               (λ (u : (j ≢ other) × (j ≢ id) × (get_elem? s.views j ≡ some x)). n.spent j x u.2 l) t) (cases j x e);
@@ -113,6 +116,7 @@ module _ {C B R E O : Type 0} (contents : Item C B → Contents R E) (legal : Li
               (λ (u : (j ≡ id) × (b ≡ x)). subst (λ (z : View R E). Waves shards s.words flight (uncounted s.views) z) u.1 record { one = wv.one; long = wv.long; two = wv.two; low = wv.low; saw = seen_kept s.words (4 * shards) v.seen w.seen wv.saw ww.saw })
               (λ (u : (j ≢ other) × (j ≢ id) × (get_elem? s.views j ≡ some x)). r.counts.waves j x u.2) t) (cases j x e));
         };
+        handled = let same : handles s.views ≡ handles two = omega (arith, ha1, ha2) in r.handled ∙ same;
         stopped = λ q. let z = r.stopped q in omega arith;
         same_origin = r.same_origin;
       }

@@ -1,5 +1,6 @@
 pub mod Spans
 pub mod Pools
+pub mod SeatSums
 pub mod Counting
 pub mod Legal
 pub mod Claims

@@ -13,9 +13,10 @@ use Rattle.quiet_table.specs.declared.item.Item.{Item}
 use Rattle.quiet_table.specs.Contents.{Contents, rest_of, parcels_of, pool}
 use Rattle.quiet_table.specs.Words.{adds, span}
 use Rattle.quiet_table.specs.Told.{handled_told, first_told, second_told, declare_told, stop_told, verdict_told}
-use Rattle.quiet_table.specs.BoardRule.{reach, Waves, Counts, IsOut, AtHome, BoardRule, uncounted, stops}
+use Rattle.quiet_table.specs.BoardRule.{reach, Waves, Counts, IsOut, AtHome, BoardRule, uncounted, stops, handles}
 use Rattle.quiet_table.proofs.Spans.{span_set_in, span_set_out, span_get}
-use Rattle.quiet_table.proofs.Counting.{counts_handled, counts_view, counts_declared, waves_first, waves_second, first_low, second_low, uncounted_set, uncounted_same, stops_set, stops_at_least}
+use Rattle.quiet_table.proofs.SeatSums.{uncounted_set, uncounted_same, stops_set, stops_at_least, handles_set, handles_same}
+use Rattle.quiet_table.proofs.Counting.{counts_handled, counts_view, counts_declared, waves_first, waves_second, first_low, second_low}
 use Rattle.quiet_table.proofs.Claims.{true_false, numbered_stays, out_stays}
 
 module _ {C B R E O : Type 0} (contents : Item C B → Contents R E) (legal : List R → List E → ℕ → Type 0) (origin : List R → O) (bounded : (rests : List R) (es : List E) (total : ℕ) → legal rests es total → total + length es < 2 ^ 62) (shards : ℕ) (from : O) where
@@ -26,10 +27,10 @@ module _ {C B R E O : Type 0} (contents : Item C B → Contents R E) (legal : Li
   Rule = BoardRule contents legal origin shards from
 
   -- a step that changes numbers alone
-  number_step : (s : State S (View R E)) (r : Rule s) (id k x : ℕ) (v w : View R E) → get_elem? s.views id ≡ some v → w.live ≡ v.live → w.number ≡ v.number → w.splits ≡ v.splits → w.joins ≡ v.joins → (v.live ≡ false → w.stops ≡ v.stops) → w.hands ≡ v.hands → 2 * shards ≤ k
-      → span (set s.words k x) (3 * shards) shards + uncounted (set s.views id w) ≡ span s.words (3 * shards) shards + uncounted s.views → (get_or (set s.words k x) (4 * shards) 0 ≡ 2 → 1 ≤ stops (set s.views id w)) → Counts shards (set s.words k x) (set s.views id w) (length (pool (map parcels_of r.settled)))
+  number_step : (s : State S (View R E)) (r : Rule s) (id k x : ℕ) (v w : View R E) → get_elem? s.views id ≡ some v → w.live ≡ v.live → w.number ≡ v.number → w.splits ≡ v.splits → w.joins ≡ v.joins → (v.live ≡ false → (w.stops ≡ v.stops) × (w.handled ≡ v.handled)) → w.hands ≡ v.hands → 2 * shards ≤ k
+      → span (set s.words k x) (3 * shards) shards + uncounted (set s.views id w) ≡ span s.words (3 * shards) shards + uncounted s.views → span (set s.words k x) (3 * shards) shards ≡ handles (set s.views id w) → (get_or (set s.words k x) (4 * shards) 0 ≡ 2 → 1 ≤ stops (set s.views id w)) → Counts shards (set s.words k x) (set s.views id w) (length (pool (map parcels_of r.settled)))
       → Rule record { words = set s.words k x; homes = s.homes; views = set s.views id w }
-  number_step s r id k x v w at live number splits joins calm hands high same_total stopped counts = record {
+  number_step s r id k x v w at live number splits joins calm hands high same_total handled stopped counts = record {
     settled = r.settled;
     some_shard = r.some_shard;
     wide = length-set s.words k x ∙ r.wide;
@@ -52,20 +53,23 @@ module _ {C B R E O : Type 0} (contents : Item C B → Contents R E) (legal : Li
         (at_set s.views id j w y e);
     legal_now = subst (λ z. legal (map rest_of r.settled) (pool (map parcels_of r.settled)) z) (sym same_total) r.legal_now;
     counts = counts;
+    handled = handled;
     stopped = stopped;
     same_origin = r.same_origin;
   }
 
   -- the handled step
-  pub handles : (id : ℕ) (me : Me S (View R E)) (q handled : ℕ) → q < shards → handled ≤ me.0.uncounted → Allows Rule (2 * shards) id me (3 * shards + q) (λ n. (n + handled) % 2 ^ 64) (handled_told (step (2 * shards) (3 * shards + q) handled 0 none) me)
-  handles id me q handled within enough s r deep at _ =
+  pub adds_handled : (id : ℕ) (me : Me S (View R E)) (q handled : ℕ) → q < shards → me.0.live ≡ true → handled ≤ me.0.uncounted → Allows Rule (2 * shards) id me (3 * shards + q) (λ n. (n + handled) % 2 ^ 64) (handled_told (step (2 * shards) (3 * shards + q) handled 0 none) me)
+  adds_handled id me q handled within live enough s r deep at _ =
       let v : View R E = me.0 in
-      let w : View R E = record v { uncounted = v.uncounted - handled } in
+      let w : View R E = record v { uncounted = v.uncounted - handled; handled = v.handled + handled } in
       let k : ℕ = 3 * shards + q in
       let n : ℕ = get_or s.words k 0 in
       let wide = r.wide in
       let less : w.uncounted + handled ≡ v.uncounted = omega arith in
       let total : uncounted (set s.views id w) + handled ≡ uncounted s.views = let p = uncounted_set s.views id v w at in omega arith in
+      let more : handles (set s.views id w) ≡ handles s.views + handled = let p = handles_set s.views id v w at in omega arith in
+      let sums : span s.words (3 * shards) shards ≡ handles s.views = r.handled in
       let small = bounded _ _ _ r.legal_now in
       let low = span_get s.words (3 * shards) shards k (omega arith) (omega arith) (omega arith) in
       let fits : (n + handled) % 18446744073709551616 ≡ n + handled = omega arith in
@@ -74,17 +78,18 @@ module _ {C B R E O : Type 0} (contents : Item C B → Contents R E) (legal : Li
         keeps,
         tt,
         subst (λ z. Rule record { words = set s.words k z; homes = s.homes; views = set s.views id w }) (sym fits)
-            (number_step s r id k (n + handled) v w at refl refl refl refl (λ _. refl) refl (omega arith) (omega arith) (λ q. stops_at_least s.views id v w at (omega arith) (r.stopped (sym (get_or-set_other s.words k (4 * shards) (n + handled) 0 (λ e. omega arith)) ∙ q))) (counts_handled shards s.words s.views _ id v w q handled at refl refl refl less within wide r.counts)),
+            (number_step s r id k (n + handled) v w at refl refl refl refl (λ d. absurd (true_false (sym live ∙ d))) refl (omega arith) (omega arith) (omega arith) (λ q. stops_at_least s.views id v w at (omega arith) (r.stopped (sym (get_or-set_other s.words k (4 * shards) (n + handled) 0 (λ e. omega arith)) ∙ q))) (counts_handled shards s.words s.views _ id v w q handled at refl refl refl less within wide r.counts)),
         refl,
       )
 
   -- a load that changes a view's waves
-  wave_load : (s : State S (View R E)) (r : Rule s) (id k : ℕ) (v w : View R E) → get_elem? s.views id ≡ some v → w.live ≡ v.live → w.number ≡ v.number → w.splits ≡ v.splits → w.joins ≡ v.joins → (v.live ≡ false → w.stops ≡ v.stops) → v.stops ≤ w.stops → w.hands ≡ v.hands → w.uncounted ≡ v.uncounted → 2 * shards ≤ k
+  wave_load : (s : State S (View R E)) (r : Rule s) (id k : ℕ) (v w : View R E) → get_elem? s.views id ≡ some v → w.live ≡ v.live → w.number ≡ v.number → w.splits ≡ v.splits → w.joins ≡ v.joins → (v.live ≡ false → (w.stops ≡ v.stops) × (w.handled ≡ v.handled)) → v.stops ≤ w.stops → w.handled ≡ v.handled → w.hands ≡ v.hands → w.uncounted ≡ v.uncounted → 2 * shards ≤ k
       → (Waves shards s.words (length (pool (map parcels_of r.settled))) (uncounted s.views) v → Waves shards s.words (length (pool (map parcels_of r.settled))) (uncounted s.views) w)
       → Rule record { words = set s.words k (get_or s.words k 0); homes = s.homes; views = set s.views id w }
-  wave_load s r id k v w at live number splits joins calm more hands same high go =
+  wave_load s r id k v w at live number splits joins calm more same_handled hands same high go =
       number_step s r id k (get_or s.words k 0) v w at live number splits joins calm hands high
       (rw (set-get_or s.words k 0, uncounted_same s.views id v w at same) refl)
+      (rw (set-get_or s.words k 0) (r.handled ∙ handles_same s.views id v w at same_handled))
       (rw (set-get_or s.words k 0) (λ q. stops_at_least s.views id v w at more (r.stopped q)))
       (rw (set-get_or s.words k 0) (counts_view shards s.words s.views _ id v w at same go r.counts))
 
@@ -98,7 +103,7 @@ module _ {C B R E O : Type 0} (contents : Item C B → Contents R E) (legal : Li
         w,
         keeps,
         tt,
-        wave_load s r id (3 * shards + k) v w at refl refl refl refl (λ _. refl) (omega arith) refl refl (omega arith) (waves_first shards s.words s.views _ k v within old r.wide r.counts),
+        wave_load s r id (3 * shards + k) v w at refl refl refl refl (λ _. (refl, refl)) (omega arith) refl refl refl (omega arith) (waves_first shards s.words s.views _ k v within old r.wide r.counts),
         λ k' shards' e f. let q : k ≡ k' = omega arith in let M0 : Me S (View R E) = (w, me.1) in subst (λ (z : ℕ). (M0 ≡ (record v { first = take z v.first ++ n ∷ []; second = [] }, me.1)) × (adds (take z v.first ++ n ∷ []) < 4611686018427387904)) q (refl, small),
       )
 
@@ -112,7 +117,7 @@ module _ {C B R E O : Type 0} (contents : Item C B → Contents R E) (legal : Li
         w,
         keeps,
         tt,
-        wave_load s r id (2 * shards + length v.second) v w at refl refl refl refl (λ _. refl) (omega arith) refl refl (omega arith) (waves_second shards s.words _ _ v within r.wide),
+        wave_load s r id (2 * shards + length v.second) v w at refl refl refl refl (λ _. (refl, refl)) (omega arith) refl refl refl (omega arith) (waves_second shards s.words _ _ v within r.wide),
         (refl, small),
       )
 
@@ -133,7 +138,8 @@ module _ {C B R E O : Type 0} (contents : Item C B → Contents R E) (legal : Li
         keeps,
         tt,
         subst (λ b. Rule (stepped s k (either b 1 n) id me.1 w keeps)) (sym (eq-eqb n 0 hit))
-            (number_step s r id k 1 v w at refl refl refl refl (λ _. refl) refl (omega arith) (rw (span_set_out s.words (3 * shards) shards k 1 (inr (omega arith)), uncounted_same s.views id v w at refl) refl)
+            (number_step s r id k 1 v w at refl refl refl refl (λ _. (refl, refl)) refl (omega arith) (rw (span_set_out s.words (3 * shards) shards k 1 (inr (omega arith)), uncounted_same s.views id v w at refl) refl)
+            (span_set_out s.words (3 * shards) shards k 1 (inr (omega arith)) ∙ (r.handled ∙ handles_same s.views id v w at refl))
             (λ q. let here = get_or-set_same s.words k 1 0 (let wide = r.wide in omega arith) in absurd (omega arith))
             (counts_declared shards s.words s.views _ id 1 v w at refl refl refl refl r.wide r.some_shard hit (omega arith) (λ _. zeros) r.counts)),
         (r.counts.verdict, (λ q. sym (a.saw q)), (λ _. refl), λ miss. absurd (miss hit)),
@@ -143,7 +149,7 @@ module _ {C B R E O : Type 0} (contents : Item C B → Contents R E) (legal : Li
         keeps,
         tt,
         subst (λ b. Rule (stepped s k (either b 1 n) id me.1 w keeps)) (sym (ne_eqb n 0 miss))
-            (wave_load s r id k v w at refl refl refl refl (λ _. refl) (omega arith) refl refl (omega arith) (λ b. record { one = b.one; long = b.long; two = b.two; low = b.low; saw = λ _. refl })),
+            (wave_load s r id k v w at refl refl refl refl (λ _. (refl, refl)) (omega arith) refl refl refl (omega arith) (λ b. record { one = b.one; long = b.long; two = b.two; low = b.low; saw = λ _. refl })),
         (r.counts.verdict, (λ q. sym (a.saw q)), (λ hit. absurd (miss hit)), λ _. refl),
       ))
 
@@ -162,6 +168,7 @@ module _ {C B R E O : Type 0} (contents : Item C B → Contents R E) (legal : Li
         tt,
         subst (λ b. Rule (stepped s k (either b 2 n) id me.1 w keeps)) (sym (eq-eqb n 0 hit))
             (number_step s r id k 2 v w at refl refl refl refl (λ d. absurd (true_false (sym live ∙ d))) refl (omega arith) (rw (span_set_out s.words (3 * shards) shards k 2 (inr (omega arith)), uncounted_same s.views id v w at refl) refl)
+            (span_set_out s.words (3 * shards) shards k 2 (inr (omega arith)) ∙ (r.handled ∙ handles_same s.views id v w at refl))
             (λ q. let z = stops_set s.views id v w at in omega arith)
             (counts_declared shards s.words s.views _ id 2 v w at refl refl refl refl r.wide r.some_shard hit (omega arith) (λ q. absurd (omega arith)) r.counts)),
         (r.counts.verdict, (λ q. sym (a.saw q)), (λ _. refl), λ miss. absurd (miss hit)),
@@ -171,7 +178,7 @@ module _ {C B R E O : Type 0} (contents : Item C B → Contents R E) (legal : Li
         keeps,
         tt,
         subst (λ b. Rule (stepped s k (either b 2 n) id me.1 w keeps)) (sym (ne_eqb n 0 miss))
-            (wave_load s r id k v w at refl refl refl refl (λ d. absurd (true_false (sym live ∙ d))) (omega arith) refl refl (omega arith) (λ b. record { one = b.one; long = b.long; two = b.two; low = b.low; saw = λ _. refl })),
+            (wave_load s r id k v w at refl refl refl refl (λ d. absurd (true_false (sym live ∙ d))) (omega arith) refl refl refl (omega arith) (λ b. record { one = b.one; long = b.long; two = b.two; low = b.low; saw = λ _. refl })),
         (r.counts.verdict, (λ q. sym (a.saw q)), (λ hit. absurd (miss hit)), λ _. refl),
       ))
 
@@ -186,7 +193,7 @@ module _ {C B R E O : Type 0} (contents : Item C B → Contents R E) (legal : Li
         w,
         keeps,
         tt,
-        wave_load s r id k v w at refl refl refl refl (λ _. refl) (omega arith) refl refl (omega arith) (λ b. record { one = b.one; long = b.long; two = b.two; low = b.low; saw = λ _. refl }),
+        wave_load s r id k v w at refl refl refl refl (λ _. (refl, refl)) (omega arith) refl refl refl (omega arith) (λ b. record { one = b.one; long = b.long; two = b.two; low = b.low; saw = λ _. refl }),
         (r.counts.verdict, (λ q. sym (a.saw q)), refl),
       )
 
@@ -196,8 +203,8 @@ module _ {C B R E O : Type 0} (contents : Item C B → Contents R E) (legal : Li
   pub looks_at : (sh slots id : ℕ) (me : Me S (View R E)) → sh ≡ shards → slots ≡ 2 * sh → Allows Rule slots id me (4 * sh) (λ n. n) (verdict_told (step slots (4 * sh) 0 0 none) me)
   looks_at sh slots id me same e = rw (e, same) (looks id me)
 
-  pub handles_at : (sh slots id : ℕ) (me : Me S (View R E)) (q handled : ℕ) → sh ≡ shards → slots ≡ 2 * sh → q < sh → handled ≤ me.0.uncounted → Allows Rule slots id me (3 * sh + q) (λ n. (n + handled) % 2 ^ 64) (handled_told (step slots (3 * sh + q) handled 0 none) me)
-  handles_at sh slots id me q handled same e within enough = rw (e, same) (handles id me q handled (subst (λ z. q < z) same within) enough)
+  pub adds_handled_at : (sh slots id : ℕ) (me : Me S (View R E)) (q handled : ℕ) → sh ≡ shards → slots ≡ 2 * sh → q < sh → me.0.live ≡ true → handled ≤ me.0.uncounted → Allows Rule slots id me (3 * sh + q) (λ n. (n + handled) % 2 ^ 64) (handled_told (step slots (3 * sh + q) handled 0 none) me)
+  adds_handled_at sh slots id me q handled same e within live enough = rw (e, same) (adds_handled id me q handled (subst (λ z. q < z) same within) live enough)
 
   pub reads_first_at : (sh slots id : ℕ) (me : Me S (View R E)) (k : ℕ) → sh ≡ shards → slots ≡ 2 * sh → k < sh → k ≤ length me.0.first → Allows Rule slots id me (3 * sh + k) (λ n. n) (first_told (step slots (3 * sh + k) 0 0 none) me)
   reads_first_at sh slots id me k same e within old = rw (e, same) (reads_first id me k (subst (λ z. k < z) same within) old)

@@ -115,6 +115,7 @@ module _ {C B R E : Type 0} (contents : Item C B → Contents R E) where
             quiet = λ q. let z = w.verdict in absurd (omega arith);
             waves = λ j v e. subst (λ (z : View R E). Waves n words (length (pool (map (λ c. (contents (Cell c)).parcels) cs ++ map (λ b. (contents (Inbox b)).parcels) bs))) 0 z) (one_view j v e).1 (waves_new n words (length (pool (map (λ c. (contents (Cell c)).parcels) cs ++ map (λ b. (contents (Inbox b)).parcels) bs))) 0 first_view some_shard refl refl refl);
           });
+          handled = w.handled;
           stopped = λ q. let z = w.verdict in absurd (omega arith);
           same_origin = refl;
         }

@@ -17,7 +17,8 @@ use Rattle.quiet_table.specs.Hands.{MayGive, Goes}
 use Rattle.quiet_table.specs.Told.{released}
 use Rattle.quiet_table.specs.BoardRule.{IsOut, Fits, AtHome, BoardRule}
 use Rattle.std.proofs.lemmas.List.Sorted.{length_permutation}
-use Rattle.quiet_table.proofs.Counting.{uncounted_same, stops_at_least, counts_turn}
+use Rattle.quiet_table.proofs.SeatSums.{uncounted_same, stops_at_least, handles_same}
+use Rattle.quiet_table.proofs.Counting.{counts_turn}
 use Rattle.quiet_table.proofs.Pools.{pool_one, pool_two, span_set}
 use Rattle.quiet_table.proofs.Claims.{numbered_stays, out_stays}
 
@@ -59,7 +60,7 @@ module _ {C B R E O : Type 0} (contents : Item C B → Contents R E) (legal : Li
         wide = length-set s.words k 0 ∙ r.wide;
         deep = length-set s.homes k (some (Some i)) ∙ r.deep;
         full = long ∙ r.full;
-        numbered = numbered_stays s.views id v w at refl refl refl refl (λ _. refl) r.numbered;
+        numbered = numbered_stays s.views id v w at refl refl refl refl (λ _. (refl, refl)) r.numbered;
         each_slot = λ j l. dite (ℕ_discrete j k)
             (λ e. inl (i, ap (λ z. get_or (set s.words k 0) z 0) e ∙ get_or-set_same s.words k 0 0 (omega arith), ap (get_elem? (set s.homes k (some (Some i)))) e ∙ set_here s.homes k (some (Some i)) (omega arith), kind ∙ ap (λ z. ltb (2 * z) (2 * shards)) (sym e), ap (get_elem? settled') e ∙ here))
             (λ n. ⊎_elim
@@ -88,6 +89,7 @@ module _ {C B R E O : Type 0} (contents : Item C B → Contents R E) (legal : Li
             (λ (t : (j ≢ id) × (get_elem? s.views j ≡ some x)). r.apart j x a b g h t.1 f1 f2 same)
             (at_set s.views id j w x e);
         legal_now = rw (span_set s.words (3 * shards) shards k 0 (omega arith), uncounted_same s.views id v w at refl, rests) (any_order _ _ _ _ pools r.legal_now);
+        handled = span_set s.words (3 * shards) shards k 0 (omega arith) ∙ (r.handled ∙ handles_same s.views id v w at refl);
         counts = rw (length_permutation _ _ pools) (counts_turn shards s.words s.views _ k 0 id v w at (record { count = refl; one = refl; two = refl; saw = refl }) within r.counts);
         stopped = λ q. stops_at_least s.views id v w at (omega arith) (r.stopped (sym (get_or-set_other s.words k (4 * shards) 0 0 (λ e. omega arith)) ∙ q));
         same_origin = ap origin rests ∙ r.same_origin;

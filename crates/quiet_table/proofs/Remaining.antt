@@ -28,13 +28,13 @@ module _ {C B : Type 0} where
   row_is cs bs slots n e f = rw (e, f) (take-append-drop n slots)
 
 module _ {C B R E O : Type 0} (contents : Item C B → Contents R E) (legal : List R → List E → ℕ → Type 0) (origin : List R → O) where
-  pub left_legal : (n : ℕ) (from : O) (words : List ℕ) (slots : List (Option (Item C B))) (seen stopped : ℕ) → Shut contents legal origin n from words slots seen stopped → (cs : List C) (bs : List B) → map (λ c. Some (Cell c)) cs ++ map (λ b. Some (Inbox b)) bs ≡ slots → (handled verdict : ℕ) → handled ≡ span words (3 * n) n → verdict ≡ get_or words (4 * n) 0
+  pub left_legal : (n : ℕ) (from : O) (words : List ℕ) (slots : List (Option (Item C B))) (seen stopped counted : ℕ) → Shut contents legal origin n from words slots seen stopped counted → (cs : List C) (bs : List B) → map (λ c. Some (Cell c)) cs ++ map (λ b. Some (Inbox b)) bs ≡ slots → (handled verdict : ℕ) → handled ≡ span words (3 * n) n → verdict ≡ get_or words (4 * n) 0
       → (more : ℕ) × legal (map (λ c. (contents (Cell c)).rest) cs ++ map (λ b. (contents (Inbox b)).rest) bs) (pool (map (λ c. (contents (Cell c)).parcels) cs ++ map (λ b. (contents (Inbox b)).parcels) bs)) (handled + more)
       × (verdict ≡ 1 → (length (pool (map (λ c. (contents (Cell c)).parcels) cs ++ map (λ b. (contents (Inbox b)).parcels) bs)) ≡ 0) × (more ≡ 0))
-  left_legal n from words slots seen stopped s cs bs same handled verdict h v =
+  left_legal n from words slots seen stopped counted s cs bs same handled verdict h v =
       let rests = rests_laid contents cs bs in let parcels = parcels_laid contents cs bs in
       (s.more, rw (sym rests, sym parcels, same, h) s.legal_now, rw (v, sym parcels, same) s.quiet)
 
-  pub left_origin : (n : ℕ) (from : O) (words : List ℕ) (slots : List (Option (Item C B))) (seen stopped : ℕ) → Shut contents legal origin n from words slots seen stopped → (cs : List C) (bs : List B) → map (λ c. Some (Cell c)) cs ++ map (λ b. Some (Inbox b)) bs ≡ slots
+  pub left_origin : (n : ℕ) (from : O) (words : List ℕ) (slots : List (Option (Item C B))) (seen stopped counted : ℕ) → Shut contents legal origin n from words slots seen stopped counted → (cs : List C) (bs : List B) → map (λ c. Some (Cell c)) cs ++ map (λ b. Some (Inbox b)) bs ≡ slots
       → origin (map (λ c. (contents (Cell c)).rest) cs ++ map (λ b. (contents (Inbox b)).rest) bs) ≡ from
-  left_origin n from words slots seen stopped s cs bs same = let rests = rests_laid contents cs bs in rw (sym rests, same) s.same_origin
+  left_origin n from words slots seen stopped counted s cs bs same = let rests = rests_laid contents cs bs in rw (sym rests, same) s.same_origin

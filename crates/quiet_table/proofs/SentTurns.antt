@@ -18,7 +18,8 @@ use Rattle.quiet_table.specs.Told.{sent_told}
 use Rattle.quiet_table.specs.BoardRule.{IsOut, Fits, AtHome, BoardRule, uncounted}
 use Rattle.quiet_table.proofs.Pools.{pool_front, span_set}
 use Rattle.quiet_table.proofs.Spans.{span_get}
-use Rattle.quiet_table.proofs.Counting.{counts_sent, stops_at_least, uncounted_set}
+use Rattle.quiet_table.proofs.SeatSums.{uncounted_set, stops_at_least, handles_same}
+use Rattle.quiet_table.proofs.Counting.{counts_sent}
 use Rattle.quiet_table.proofs.Claims.{numbered_stays, out_stays}
 
 get_there : {A : Type 0} (l : List A) (i : ℕ) (a : A) → get_elem? l i ≡ some a → slice_get l i ≡ Some a
@@ -77,7 +78,7 @@ module _ {C B R E O : Type 0} (contents : Item C B → Contents R E) (legal : Li
         wide = length-set s.words k (n + sent) ∙ r.wide;
         deep = r.deep;
         full = length-set r.settled h0.slot c ∙ r.full;
-        numbered = numbered_stays s.views id v w at refl refl refl refl (λ _. refl) r.numbered;
+        numbered = numbered_stays s.views id v w at refl refl refl refl (λ _. (refl, refl)) r.numbered;
         each_slot = λ j l. ⊎_elim
             (λ (t : AtHome contents shards s r.settled j).
             let apart : j ≢ h0.slot = λ q. let u = mine.turn in let z : get_or s.words h0.slot 0 ≡ 0 = ap (λ y. get_or s.words y 0) (sym q) ∙ t.1 in absurd (omega arith) in
@@ -100,6 +101,7 @@ module _ {C B R E O : Type 0} (contents : Item C B → Contents R E) (legal : Li
             (λ (t : (j ≢ id) × (get_elem? s.views j ≡ some x)). r.apart j x a b g h t.1 f1 f2 same)
             (at_set s.views id j w x e);
         legal_now = rw (same_rests, same_parcels, span_set s.words (3 * shards) shards k (n + sent) (omega arith)) (subst (λ z. legal (set rests h0.slot r') (pool (set ess h0.slot es')) z) (let q : T + handled ≡ span s.words (3 * shards) shards + uncounted (set s.views id w) = omega arith in q) legal');
+        handled = span_set s.words (3 * shards) shards k (n + sent) (omega arith) ∙ (r.handled ∙ handles_same s.views id v w at refl);
         counts = rw same_parcels (counts_sent shards s.words s.views (length (pool ess)) (length (pool (set ess h0.slot es'))) id v w h0.slot sent handled at refl refl refl refl within wide (omega arith) (λ q. none_held _ _ _ _ _ _ goes (omega arith)) (sends_after _ _ _ _ _ _ goes) r.counts);
         stopped = λ q. stops_at_least s.views id v w at (omega arith) (r.stopped (sym (get_or-set_other s.words k (4 * shards) (n + sent) 0 (λ e. omega arith)) ∙ q));
         same_origin = ap origin same_rests ∙ (keeps_origin rests h0.slot h0.rest h0.parcels sent handled r' es' at_rest goes ∙ r.same_origin);

@@ -12,13 +12,13 @@ use Rattle.quiet_table.specs.Words.{adds, span}
 
 module _ {R E : Type 0} where
   -- Live seats have different numbers. Seat 0 has counted the splits and the joins; the numbers up to the joins are
-  -- gone, and no other seat was split. A seat that another one took in has stopped nothing.
+  -- gone, and no other seat was split. A seat that another one took in has stopped nothing and handled nothing.
   pub record Numbered (views : List (View R E)) : Type 0 where
     pub most : ℕ
     pub gone : ℕ
     pub few : gone ≤ most
     pub among : (j : ℕ) (v : View R E) → get_elem? views j ≡ some v → v.live ≡ true → (v.number ≤ most) × (v.number ≡ 0 → (v.splits ≡ most) × (v.joins ≡ gone)) × (v.number ≢ 0 → (v.splits ≡ 0) × (gone < v.number))
-    pub spent : (j : ℕ) (v : View R E) → get_elem? views j ≡ some v → v.live ≡ false → v.stops ≡ 0
+    pub spent : (j : ℕ) (v : View R E) → get_elem? views j ≡ some v → v.live ≡ false → (v.stops ≡ 0) × (v.handled ≡ 0)
     pub apart : (i j : ℕ) (v w : View R E) → get_elem? views i ≡ some v → get_elem? views j ≡ some w → v.live ≡ true → w.live ≡ true → v.number ≡ w.number → i ≡ j
 
   -- a seat holds the slot k
@@ -42,6 +42,11 @@ module _ {R E : Type 0} where
   abbrev pub stops : List (View R E) → ℕ
   stops [] = 0
   stops (v ∷ vs) = v.stops + stops vs
+
+  -- what the seats counted as handled
+  abbrev pub handles : List (View R E) → ℕ
+  handles [] = 0
+  handles (v ∷ vs) = v.handled + handles vs
 
   -- the sent numbers that were read, and the present ones of the words not yet read
   abbrev pub reach : ℕ → List ℕ → View R E → ℕ
@@ -72,7 +77,7 @@ module _ {C B R E : Type 0} (contents : Item C B → Contents R E) where
 
   -- The rule. A slot is at home or out with one live seat, whose hand has its settled contents; no seat holds a
   -- slot twice. The settled contents are legal with what was handled or is uncounted, and their origin is that of the
-  -- first contents. The verdict is Stopped only where a seat stopped.
+  -- first contents. The handled words have what the seats counted. The verdict is Stopped only where a seat stopped.
   pub record BoardRule {O : Type 0} (legal : List R → List E → ℕ → Type 0) (origin : List R → O) (shards : ℕ) (from : O) (s : State (Option (Item C B)) (View R E)) : Type 0 where
     pub settled : List (Contents R E)
     pub some_shard : 0 < shards
@@ -85,5 +90,6 @@ module _ {C B R E : Type 0} (contents : Item C B → Contents R E) where
     pub apart : (j : ℕ) (v : View R E) (a b : ℕ) (g h : Hand R E) → get_elem? s.views j ≡ some v → get_elem? v.hands a ≡ some g → get_elem? v.hands b ≡ some h → g.slot ≡ h.slot → a ≡ b
     pub legal_now : legal (map rest_of settled) (pool (map parcels_of settled)) (span s.words (3 * shards) shards + uncounted s.views)
     pub counts : Counts shards s.words s.views (length (pool (map parcels_of settled)))
+    pub handled : span s.words (3 * shards) shards ≡ handles s.views
     pub stopped : slice_index s.words (4 * shards) ≡ 2 → 1 ≤ stops s.views
     pub same_origin : origin (map rest_of settled) ≡ from

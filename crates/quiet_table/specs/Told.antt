@@ -14,9 +14,9 @@ module _ {R E : Type 0} where
   abbrev pub sent_told : {S : Type 0} → List R → List E → ℕ → Step S → Me S (View R E) → ℕ → Me S (View R E) → Type 0
   sent_told rs es handled st m n m' = (r : R) → rs ≡ r ∷ [] → m' ≡ (turned handled r es m.0, m.1)
 
-  -- what the handled step tells
+  -- what the handled step tells: it was counted
   abbrev pub handled_told : {S : Type 0} → Step S → Me S (View R E) → ℕ → Me S (View R E) → Type 0
-  handled_told st m n m' = m' ≡ (record m.0 { uncounted = m.0.uncounted - st.first }, m.1)
+  handled_told st m n m' = m' ≡ (record m.0 { uncounted = m.0.uncounted - st.first; handled = m.0.handled + st.first }, m.1)
 
   -- what a read of the first wave tells: the word at this place
   abbrev pub first_told : {S : Type 0} → Step S → Me S (View R E) → ℕ → Me S (View R E) → Type 0

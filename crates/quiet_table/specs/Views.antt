@@ -15,7 +15,7 @@ either_seen (suc m) n = suc m
 module _ {R E : Type 0} where
   -- the one seat of a new board
   abbrev pub first_view : View R E
-  first_view = record { live = true; number = 0; splits = 0; joins = 0; stops = 0; finds = []; hands = []; uncounted = 0; first = []; second = []; seen = 0; gave = [] }
+  first_view = record { live = true; number = 0; splits = 0; joins = 0; stops = 0; finds = []; hands = []; uncounted = 0; handled = 0; first = []; second = []; seen = 0; gave = [] }
 
   -- what a split leaves of seat 0
   abbrev pub split_left : View R E → View R E
@@ -36,7 +36,7 @@ module _ {R E : Type 0} where
 
   -- seat 0 after it took in the second seat
   abbrev pub joined_view : View R E → View R E → View R E
-  joined_view v w = record v { joins = v.joins + 1; stops = v.stops + w.stops; finds = v.finds ++ w.finds; seen = either_seen v.seen w.seen }
+  joined_view v w = record v { joins = v.joins + 1; stops = v.stops + w.stops; handled = v.handled + w.handled; finds = v.finds ++ w.finds; seen = either_seen v.seen w.seen }
 
   abbrev pub hand_of : ℕ → Contents R E → Hand R E
   hand_of k c = record { slot = k; rest = c.rest; parcels = c.parcels }

@@ -101,7 +101,7 @@ fn work_in_threads<R: Threads + Sync>(
     requires ready { All (λ s. (s.place.table_id ≡ board.now.table.shared.table_id) × (s.place.me.0.hands ≡ [])) seats.items }
     requires each { (i : ℕ) (s : _) → slice_get seats.items i ≡ Some s → (s.number ≡ i) × (s.place.table_id ≡ board.now.table.shared.table_id) × (s.place.me.0 ≡ dealt_view 4 i) }
     ensures count { IfOk result (λ v. vec_len v ≡ vec_len seats) }
-    ensures each { IfOk result (λ v. (i : ℕ) (s : _) → slice_get v.items i ≡ Some s → (s.number ≡ i) × (s.place.table_id ≡ board.now.table.shared.table_id) × (s.place.me.0 ≡ record (dealt_view 4 i) { finds = s.place.me.0.finds; gave = s.place.me.0.gave })) }
+    ensures each { IfOk result (λ v. (i : ℕ) (s : _) → slice_get v.items i ≡ Some s → (s.number ≡ i) × (s.place.table_id ≡ board.now.table.shared.table_id) × (s.place.me.0 ≡ record (dealt_view 4 i) { handled = s.place.me.0.handled; finds = s.place.me.0.finds; gave = s.place.me.0.gave })) }
 {
     let worked = thread::map_vec(
         rt,
@@ -109,7 +109,7 @@ fn work_in_threads<R: Threads + Sync>(
         &|seat| -> TestSeat
             requires ready { (board.now.shards ≡ 4) × (seat.place.table_id ≡ board.now.table.shared.table_id) × (seat.place.me.0.hands ≡ []) }
             ensures own { (result.place.table_id ≡ seat.place.table_id) × (result.number ≡ seat.number) }
-            ensures rest { result.place.me.0 ≡ record seat.place.me.0 { finds = result.place.me.0.finds; gave = result.place.me.0.gave } }
+            ensures rest { result.place.me.0 ≡ record seat.place.me.0 { handled = result.place.me.0.handled; finds = result.place.me.0.finds; gave = result.place.me.0.gave } }
         { work(board, seat, 50) },
     )?;
     Ok(worked)
@@ -121,7 +121,7 @@ fn finish(board: &TestBoard, seat: &mut TestSeat) -> Wave
     requires four { board.now.shards ≡ 4 }
     requires bare { seat.old.place.me.0.hands ≡ [] }
     ensures own { seat.new.place.table_id ≡ seat.old.place.table_id }
-    ensures rest { seat.new.place.me.0 ≡ record seat.old.place.me.0 { finds = seat.new.place.me.0.finds; gave = seat.new.place.me.0.gave; first = seat.new.place.me.0.first; second = seat.new.place.me.0.second; seen = seat.new.place.me.0.seen } }
+    ensures rest { seat.new.place.me.0 ≡ record seat.old.place.me.0 { handled = seat.new.place.me.0.handled; finds = seat.new.place.me.0.finds; gave = seat.new.place.me.0.gave; first = seat.new.place.me.0.first; second = seat.new.place.me.0.second; seen = seat.new.place.me.0.seen } }
 {
     for _ in 0..100 {
         round(board, seat);
@@ -132,7 +132,7 @@ fn finish(board: &TestBoard, seat: &mut TestSeat) -> Wave
 // Lets the first seat finish what is left, and takes the board apart.
 fn close_all(board: TestBoard, seats: Vec<TestSeat>) -> (Wave, Remains<Purse, Tray>)
     requires four { (board.shards ≡ 4) × (vec_len seats ≡ 4) }
-    requires each { (i : ℕ) (s : _) → slice_get seats.items i ≡ Some s → (s.number ≡ i) × (s.place.table_id ≡ board.table.shared.table_id) × (s.place.me.0 ≡ record (dealt_view 4 i) { finds = s.place.me.0.finds; gave = s.place.me.0.gave }) }
+    requires each { (i : ℕ) (s : _) → slice_get seats.items i ≡ Some s → (s.number ≡ i) × (s.place.table_id ≡ board.table.shared.table_id) × (s.place.me.0 ≡ record (dealt_view 4 i) { handled = s.place.me.0.handled; finds = s.place.me.0.finds; gave = s.place.me.0.gave }) }
 {
     let mut seats = seats;
     let first = &mut seats[0];

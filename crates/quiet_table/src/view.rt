@@ -17,8 +17,9 @@ pub struct Find {
 
 /// What a seat knows. No value of it is made.
 ///
-/// `finds` has each claim that found another seat's number, and `gave` what was given back, both newest first. `hands` has the held slots, the last taken first. `seen` is the verdict's word that was read last, 0 where it
-/// was Running.
+/// `finds` has each claim that found another seat's number, and `gave` what was given back, both newest first. `hands`
+/// has the held slots, the last taken first. `handled` is what this seat counted as handled. `seen` is the verdict's
+/// word that was read last, 0 where it was Running.
 pub struct View<R, E> {
     pub live: bool,
     pub number: u64,
@@ -28,6 +29,7 @@ pub struct View<R, E> {
     pub finds: LinkedList<Find>,
     pub hands: LinkedList<Hand<R, E>>,
     pub uncounted: u64,
+    pub handled: u64,
     pub first: LinkedList<u64>,
     pub second: LinkedList<u64>,
     pub seen: u64,

@@ -86,7 +86,7 @@ pub fn visit(board: &TestBoard, seat: &mut TestSeat, shard: u32, next: u32) -> b
     requires within { (shard < board.now.shards) × (next < board.now.shards) }
     requires bare { seat.old.place.me.0.hands ≡ [] }
     ensures own { seat.new.place.table_id ≡ seat.old.place.table_id }
-    ensures rest { seat.new.place.me.0 ≡ record seat.old.place.me.0 { finds = seat.new.place.me.0.finds; gave = seat.new.place.me.0.gave } }
+    ensures rest { seat.new.place.me.0 ≡ record seat.old.place.me.0 { handled = seat.new.place.me.0.handled; finds = seat.new.place.me.0.finds; gave = seat.new.place.me.0.gave } }
 {
     let purse = match board.take_cell(seat, shard) {
         Take::Held { turn: _ } => return false,
@@ -106,7 +106,7 @@ pub fn round(board: &TestBoard, seat: &mut TestSeat)
     requires four { board.now.shards ≡ 4 }
     requires bare { seat.old.place.me.0.hands ≡ [] }
     ensures own { seat.new.place.table_id ≡ seat.old.place.table_id }
-    ensures rest { seat.new.place.me.0 ≡ record seat.old.place.me.0 { finds = seat.new.place.me.0.finds; gave = seat.new.place.me.0.gave } }
+    ensures rest { seat.new.place.me.0 ≡ record seat.old.place.me.0 { handled = seat.new.place.me.0.handled; finds = seat.new.place.me.0.finds; gave = seat.new.place.me.0.gave } }
 {
     for shard in 0..4u32 {
         let _served = visit(board, seat, shard, (shard + 1) % 4);
@@ -119,7 +119,7 @@ pub fn work(board: &TestBoard, seat: TestSeat, rounds: u32) -> TestSeat
     requires four { board.now.shards ≡ 4 }
     requires bare { seat.place.me.0.hands ≡ [] }
     ensures own { (result.place.table_id ≡ seat.place.table_id) × (result.number ≡ seat.number) }
-    ensures rest { result.place.me.0 ≡ record seat.place.me.0 { finds = result.place.me.0.finds; gave = result.place.me.0.gave } }
+    ensures rest { result.place.me.0 ≡ record seat.place.me.0 { handled = result.place.me.0.handled; finds = result.place.me.0.finds; gave = result.place.me.0.gave } }
 {
     let mut seat = seat;
     for _ in 0..rounds {

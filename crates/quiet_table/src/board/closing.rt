@@ -7,7 +7,7 @@ ghost use lib.ListN.{get_elem?};
 ghost use Rattle.quiet_table.specs.Contents.{contents_of, is_cell, origin_of, pool};
 ghost use Rattle.quiet_table.specs.Words.{span};
 ghost use Rattle.quiet_table.specs.Views.{joined_view};
-ghost use Rattle.quiet_table.specs.BoardRule.{stops};
+ghost use Rattle.quiet_table.specs.BoardRule.{stops, handles};
 ghost use Rattle.quiet_table.specs.Shut.{Shut};
 ghost use Rattle.quiet_table.specs.Waved.{verdict_word};
 ghost use Rattle.quiet_table.specs.declared.item.Item.TheVariants.{Cell, Inbox};
@@ -153,7 +153,7 @@ fn shut<C: LegalLoad, B: Load<Rest = C::Rest, Parcel = C::Parcel>>(
     requires last { (first.number ≡ 0) × (first.place.me.0.hands ≡ []) × (first.place.me.0.splits ≡ first.place.me.0.joins) }
     ensures full { IsFull result.words × IsFull result.slots }
     ensures counts { slots_len result.slots ≡ table.shared.table_id.slots }
-    ensures shut { Shut (contents_of C.rest C.parcels B.rest B.parcels) C.legal C.origin shards (origin_of (contents_of C.rest C.parcels B.rest B.parcels) C.origin table.shared.key.value.items) (slots_items result.words) (slots_items result.slots) first.place.me.0.seen first.place.me.0.stops }
+    ensures shut { Shut (contents_of C.rest C.parcels B.rest B.parcels) C.legal C.origin shards (origin_of (contents_of C.rest C.parcels B.rest B.parcels) C.origin table.shared.key.value.items) (slots_items result.words) (slots_items result.slots) first.place.me.0.seen first.place.me.0.stops first.place.me.0.handled }
 {
     let _shards = shards;
     let BoardSeat { place, number: _ } = first;
@@ -191,6 +191,7 @@ impl<C: LegalLoad, B: Load<Rest = C::Rest, Parcel = C::Parcel>> Board<C, B> {
         ensures own { (first.new.place.table_id ≡ first.old.place.table_id) × (first.new.number ≡ 0) }
         ensures told { (first.new.place.me.0.hands ≡ first.old.place.me.0.hands) × (first.new.place.me.0.splits ≡ first.old.place.me.0.splits) × (first.new.place.me.0.joins ≡ vec_len others) }
         ensures stops { first.new.place.me.0.stops ≡ first.old.place.me.0.stops + stops (map (λ s. s.place.me.0) others.items) }
+        ensures handled { first.new.place.me.0.handled ≡ first.old.place.me.0.handled + handles (map (λ s. s.place.me.0) others.items) }
         ensures seen { (first.old.place.me.0.seen ≢ 0 → first.new.place.me.0.seen ≡ first.old.place.me.0.seen) × ((i : ℕ) (s : _) → slice_get others.items i ≡ Some s → s.place.me.0.seen ≢ 0 → first.new.place.me.0.seen ≢ 0) }
     {
         for other in others {
@@ -206,6 +207,7 @@ impl<C: LegalLoad, B: Load<Rest = C::Rest, Parcel = C::Parcel>> Board<C, B> {
         ensures own { (result.place.table_id ≡ self.now.table.shared.table_id) × (result.number ≡ 0) }
         ensures told { (result.place.me.0.hands ≡ []) × (result.place.me.0.splits ≡ result.place.me.0.joins) }
         ensures stops { result.place.me.0.stops ≡ stops (map (λ s. s.place.me.0) seats.items) }
+        ensures handled { result.place.me.0.handled ≡ handles (map (λ s. s.place.me.0) seats.items) }
         ensures seen { (i : ℕ) (s : _) → slice_get seats.items i ≡ Some s → s.place.me.0.seen ≢ 0 → result.place.me.0.seen ≢ 0 }
         ensures first { (s : _) → slice_get seats.items 0 ≡ Some s → s.place.me.0.seen ≢ 0 → result.place.me.0.seen ≡ s.place.me.0.seen }
     {
@@ -214,8 +216,9 @@ impl<C: LegalLoad, B: Load<Rest = C::Rest, Parcel = C::Parcel>> Board<C, B> {
         first
     }
 
-    /// What the slots hold in the end, by shard, and the verdict: where the first seat has seen one, it is that one. All
-    /// seats have to be there, in the order of their numbers, and none may hold a slot. It takes no memory.
+    /// What the slots hold in the end, by shard, what all seats counted as handled, and the verdict: where the first seat
+    /// has seen one, it is that one. All seats have to be there, in the order of their numbers, and none may hold a slot.
+    /// It takes no memory.
     pub fn close(self, seats: Vec<BoardSeat<C, B>>) -> Remains<C, B>
         requires some_seat { 0 < vec_len seats }
         requires each { (i : ℕ) (s : _) → slice_get seats.items i ≡ Some s → (s.number ≡ i) × (s.place.table_id ≡ self.table.shared.table_id) × (s.place.me.0.hands ≡ []) }
@@ -226,6 +229,7 @@ impl<C: LegalLoad, B: Load<Rest = C::Rest, Parcel = C::Parcel>> Board<C, B> {
         ensures seen { (i : ℕ) (s : _) → slice_get seats.items i ≡ Some s → s.place.me.0.seen ≢ 0 → verdict_word result.verdict ≢ 0 }
         ensures first { (s : _) → slice_get seats.items 0 ≡ Some s → s.place.me.0.seen ≢ 0 → verdict_word result.verdict ≡ s.place.me.0.seen }
         ensures stopped { verdict_word result.verdict ≡ 2 → 1 ≤ stops (map (λ s. s.place.me.0) seats.items) }
+        ensures handled { result.handled ≡ handles (map (λ s. s.place.me.0) seats.items) }
     {
         let first = self.gather(seats);
         let Board {

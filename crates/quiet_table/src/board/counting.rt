@@ -1,5 +1,5 @@
 //! Counting what a turn of a shard sent and handled.
-ghost use Rattle.std.specs.Prelude.{◌≡◌, ◌≢◌, ◌<◌, ◌≤◌, ◌+◌, ◌-◌, ◌*◌, [], ◌∷◌};
+ghost use Rattle.std.specs.Prelude.{◌≡◌, ◌≢◌, ◌<◌, ◌≤◌, ◌+◌, ◌-◌, ◌*◌, [], ◌∷◌, true};
 ghost use Rattle.quiet_table.specs.Views.{FirstIs, turned, recarried};
 ghost use Rattle.quiet_table.specs.Hands.{TurnsFrom};
 
@@ -36,9 +36,10 @@ impl<C: LegalLoad, B: Load<Rest = C::Rest, Parcel = C::Parcel>> Board<C, B> {
     fn add_handled(&self, place: &mut Place<C, B>, shard: u32, handled: u64)
         requires own { place.old.table_id ≡ self.now.table.shared.table_id }
         requires within { shard < self.now.shards }
+        requires live { place.old.me.0.live ≡ true }
         requires enough { handled ≤ place.old.me.0.uncounted }
         ensures own { (place.new.table_id ≡ place.old.table_id) × (place.new.id ≡ place.old.id) }
-        ensures told { place.new.me ≡ (record place.old.me.0 { uncounted = place.old.me.0.uncounted - handled }, place.old.me.1) }
+        ensures told { place.new.me ≡ (record place.old.me.0 { uncounted = place.old.me.0.uncounted - handled; handled = place.old.me.0.handled + handled }, place.old.me.1) }
     {
         self.table
             .shared
@@ -53,7 +54,7 @@ impl<C: LegalLoad, B: Load<Rest = C::Rest, Parcel = C::Parcel>> Board<C, B> {
         requires first { FirstIs shard seat.old.place.me.0.hands }
         requires turn { TurnsFrom C.turn seat.old.place.me.0.hands sent handled (C.rest value.now) (C.parcels value.now) }
         ensures own { (seat.new.place.table_id ≡ seat.old.place.table_id) × (seat.new.place.id ≡ seat.old.place.id) }
-        ensures settled { seat.new.place.me.0 ≡ record seat.old.place.me.0 { hands = recarried (C.rest value.now) (C.parcels value.now) seat.old.place.me.0.hands } }
+        ensures settled { seat.new.place.me.0 ≡ record seat.old.place.me.0 { hands = recarried (C.rest value.now) (C.parcels value.now) seat.old.place.me.0.hands; handled = seat.old.place.me.0.handled + handled } }
     {
         self.add_sent::<Brand>(&mut seat.place, shard, value, sent, handled);
         self.add_handled(&mut seat.place, shard, handled);

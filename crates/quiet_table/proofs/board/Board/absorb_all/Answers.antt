@@ -3,8 +3,8 @@ use Rattle.std.specs.Prelude.{slice_get}
 use Rattle.quiet_table.proofs.Emptying.{map_more, seen_kept, seen_left, seen_right, at_end, each_last, nil_of}
 use Rattle.std.proofs.lemmas.Grind.{common_steps}
 use Rattle.std.proofs.Common.{append-nil}
-use Rattle.quiet_table.proofs.Counting.{stops_more}
-use Rattle.quiet_table.specs.BoardRule.{stops}
+use Rattle.quiet_table.proofs.SeatSums.{stops_more, handles_more}
+use Rattle.quiet_table.specs.BoardRule.{stops, handles}
 use Rattle.quiet_table.proofs.board.Board.absorb_all.Goals as goal
 
 pub absorb-requires-clause-own : goal.absorb-requires-clause-own
@@ -39,6 +39,7 @@ loop-other-preserved g c =
       splits = ap (λ z. z.splits) told ∙ inv.splits;
       joins = ap (λ z. z.joins) told ∙ (ap (λ n. n + 1) inv.joins ∙ sym (length-append ys (x ∷ [])));
       stopped = let more = stops_more (map (λ s. s.place.me.0) ys) x.place.me.0 in let same = ap stops (map_more (λ s. s.place.me.0) ys x) in let a = ap (λ z. z.stops) told in let b = inv.stopped in omega arith;
+      counted = let more = handles_more (map (λ s. s.place.me.0) ys) x.place.me.0 in let same = ap handles (map_more (λ s. s.place.me.0) ys x) in let a = ap (λ z. z.handled) told in let b = inv.counted in omega arith;
       saw = λ h. ap (λ z. z.seen) told ∙ (seen_kept f.seen x.place.me.0.seen (λ e. h (sym (inv.saw h) ∙ e)) ∙ inv.saw h);
       seen = each_last (λ s. s.place.me.0.seen ≢ 0 → c.absorb.new.first.place.me.0.seen ≢ 0) ys x (λ i s e h. saw 0 (inv.seen i s e h)) (λ h. rw (ap (λ z. z.seen) told) (seen_right f.seen x.place.me.0.seen h));
     }

@@ -1,6 +1,6 @@
 use Rattle.std.proofs.Common.{◌≡◌, ◌≢◌, ◌+◌, ◌++◌, ℕ, map, Some, length}
 use Rattle.std.specs.Prelude.{slice_get}
-use Rattle.quiet_table.specs.BoardRule.{stops}
+use Rattle.quiet_table.specs.BoardRule.{stops, handles}
 use Rattle.quiet_table.proofs.board.Board.absorb_all.Given as goal
 
 abbrev pub invariant-loop-other : goal.invariant-loop-other
@@ -12,6 +12,7 @@ invariant-loop-other g l = record {
   splits : l.first.place.me.0.splits ≡ l.fn.first.place.me.0.splits;
   joins : l.first.place.me.0.joins ≡ length l.yielded;
   stopped : l.first.place.me.0.stops ≡ l.fn.first.place.me.0.stops + stops (map (λ s. s.place.me.0) l.yielded);
+  counted : l.first.place.me.0.handled ≡ l.fn.first.place.me.0.handled + handles (map (λ s. s.place.me.0) l.yielded);
   saw : l.fn.first.place.me.0.seen ≢ 0 → l.first.place.me.0.seen ≡ l.fn.first.place.me.0.seen;
   seen : (i : ℕ) (s : _) → slice_get l.yielded i ≡ Some s → s.place.me.0.seen ≢ 0 → l.first.place.me.0.seen ≢ 0;
 }

@@ -16,19 +16,22 @@ pub returns-clause-legal : goal.returns-clause-legal
 returns-clause-legal g c =
     let contents = contents_of g.C.Load.rest g.C.Load.parcels g.B.Load.rest g.B.Load.parcels in
     let closed = c.shut-closed.result in
-    left_legal contents g.C.LegalLoad.legal g.C.LegalLoad.origin c.args.self.shards _ (slots_items closed.words) (slots_items closed.slots) _ _ c.shut-closed.ensures.shut c.empty.result.cells.items c.empty.result.boxes.items c.empty.ensures.rows _ _ c.empty.ensures.handled c.empty.ensures.verdict
+    left_legal contents g.C.LegalLoad.legal g.C.LegalLoad.origin c.args.self.shards _ (slots_items closed.words) (slots_items closed.slots) _ _ _ c.shut-closed.ensures.shut c.empty.result.cells.items c.empty.result.boxes.items c.empty.ensures.rows _ _ c.empty.ensures.handled c.empty.ensures.verdict
 
 pub returns-clause-origin : goal.returns-clause-origin
 returns-clause-origin g c =
     let contents = contents_of g.C.Load.rest g.C.Load.parcels g.B.Load.rest g.B.Load.parcels in
     let closed = c.shut-closed.result in
-    left_origin contents g.C.LegalLoad.legal g.C.LegalLoad.origin c.args.self.shards _ (slots_items closed.words) (slots_items closed.slots) _ _ c.shut-closed.ensures.shut c.empty.result.cells.items c.empty.result.boxes.items c.empty.ensures.rows
+    left_origin contents g.C.LegalLoad.legal g.C.LegalLoad.origin c.args.self.shards _ (slots_items closed.words) (slots_items closed.slots) _ _ _ c.shut-closed.ensures.shut c.empty.result.cells.items c.empty.result.boxes.items c.empty.ensures.rows
 
 pub returns-clause-seen : goal.returns-clause-seen
 returns-clause-seen g c = λ i s e h. let n = c.gather-first.ensures.seen i s e h in λ z. n (c.shut-closed.ensures.shut.saw n ∙ (sym c.empty.ensures.verdict ∙ z))
 
 pub returns-clause-stopped : goal.returns-clause-stopped
 returns-clause-stopped g c = λ q. let a = c.shut-closed.ensures.shut.stops_counted (sym c.empty.ensures.verdict ∙ q) in let d = c.gather-first.ensures.stops in omega arith
+
+pub returns-clause-handled : goal.returns-clause-handled
+returns-clause-handled g c = c.empty.ensures.handled ∙ (c.shut-closed.ensures.shut.handled ∙ c.gather-first.ensures.handled)
 
 pub returns-clause-first : goal.returns-clause-first
 returns-clause-first g c = λ s e h.

@@ -1,6 +1,6 @@
 use Rattle.std.proofs.Common.{sym, ap, ◌∙◌, refl}
 use Rattle.quiet_table.specs.Views.{carried_of}
-use Rattle.quiet_table.proofs.HandsOut.{recarried_out, count_enough, count_done}
+use Rattle.quiet_table.proofs.HandsOut.{recarried_out, count_enough, count_live, count_done}
 use Rattle.quiet_table.proofs.board.Board.count.Goals as goal
 
 pub add_sent-requires-clause-turn : goal.add_sent-requires-clause-turn
@@ -8,6 +8,9 @@ add_sent-requires-clause-turn g c = (g.C.Load.rest c.args.value.now, refl, c.req
 
 pub add_handled-requires-clause-enough : goal.add_handled-requires-clause-enough
 add_handled-requires-clause-enough g c = count_enough g.row.C.Denot g.row.B.Denot _ _ _ _ _ _ (c.add_sent.ensures.told (g.C.Load.rest c.args.value.now) refl)
+
+pub add_handled-requires-clause-live : goal.add_handled-requires-clause-live
+add_handled-requires-clause-live g c = count_live g.row.C.Denot g.row.B.Denot _ _ _ _ _ _ (c.add_sent.ensures.told (g.C.Load.rest c.args.value.now) refl) c.args.seat.now.live
 
 pub invariant_of-seat : goal.invariant_of-seat
 invariant_of-seat g c =

@@ -1,6 +1,6 @@
 use Rattle.std.proofs.Common.{◌≡◌, ◌≢◌, suc, map, length, arith, sym, ap, subst, ◌∙◌}
 use Rattle.std.specs.Prelude.{slice_get}
-use Rattle.quiet_table.specs.BoardRule.{stops}
+use Rattle.quiet_table.specs.BoardRule.{stops, handles}
 use Rattle.std.proofs.lemmas.Option.{same_Some}
 use Rattle.quiet_table.proofs.Emptying.{each_first}
 use Rattle.quiet_table.proofs.board.Board.gather.Goals as goal
@@ -31,6 +31,9 @@ returns-clause-seen g c = let s = c.absorb_all.ensures.seen in each_first (λ z.
 
 pub returns-clause-stops : goal.returns-clause-stops
 returns-clause-stops g c = c.absorb_all.ensures.stops ∙ sym (ap (λ l. stops (map (λ s. s.place.me.0) l)) c.first_and_others-first.ensures)
+
+pub returns-clause-handled : goal.returns-clause-handled
+returns-clause-handled g c = c.absorb_all.ensures.handled ∙ sym (ap (λ l. handles (map (λ s. s.place.me.0) l)) c.first_and_others-first.ensures)
 
 pub returns-clause-first : goal.returns-clause-first
 returns-clause-first g c = λ s e h.

@@ -14,5 +14,5 @@ returns-clause-shut g c =
     let from = g.C.LegalLoad.origin (map rest_of (opening_contents contents key)) in
     let words = slots_items c.close_with.result.words in
     let items = slots_items c.close_with.result.slots in
-    subst (λ n. Shut contents g.C.LegalLoad.legal g.C.LegalLoad.origin n from words items v.seen v.stops) c.requires.sized
+    subst (λ n. Shut contents g.C.LegalLoad.legal g.C.LegalLoad.origin n from words items v.seen v.stops v.handled) c.requires.sized
     (closes contents g.C.LegalLoad.legal g.C.LegalLoad.origin (length key / 2) from words items first.place.id v first.live (first.numbered.0 ∙ c.requires.last.0) c.requires.last.1 c.requires.last.2 c.close_with.ensures.values.2)
