@@ -52,6 +52,12 @@ module _ {R E : Type 0} where
   pub kept_then : (u v w : View R E) → Kept u v → Kept v w → Kept u w
   kept_then u v w one two = two ∙ ap (λ (z : View R E). record z { hands = w.hands; finds = w.finds; gave = w.gave }) one
 
+  -- what was handled was counted in between
+  pub kept_counted : (u v x w : View R E) (hs : List (Hand R E)) (n : ℕ) → Kept u v → x ≡ record v { hands = hs; handled = v.handled + n } → Kept x w → w ≡ record u { handled = u.handled + n; hands = w.hands; finds = w.finds; gave = w.gave }
+  kept_counted u v x w hs n before counted after = after
+      ∙ (ap (λ (z : View R E). record z { hands = w.hands; finds = w.finds; gave = w.gave }) counted
+      ∙ ap (λ (z : View R E). record z { handled = z.handled + n; hands = w.hands; finds = w.finds; gave = w.gave }) before)
+
 all_at : (P : ℕ → Type 0) (xs : List ℕ) (i x : ℕ) → All P xs → slice_get xs i ≡ Some x → P x
 all_at P [] i x all at = absurd (none-some x at)
 all_at P (y ∷ ys) zero x all at = subst P (same_Some y x at) (All-head P y ys all)

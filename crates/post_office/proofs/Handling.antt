@@ -61,18 +61,6 @@ module _ {P Q C M : Type 0} (react : Q → ℕ → C → M → Reaction C M) (ow
   turns_end st es sent zero st' es' es2 p t = (t.0, t.1, IsPermutation-trans _ _ _ t.2 p)
   turns_end st es sent (suc h) st' es' es2 p t = (t.0, t.1, t.2, t.3, t.4, t.5, t.6, t.7, turns_end (after react owners shard st t.0 t.2) (t.1 ++ (react st.problem t.0.to t.2 t.0.msg).sent) t.3 h st' es' es2 p t.8)
 
-  -- one envelope more is handled
-  pub turns_more : (st : Stood P Q C) (es : List (Envelope M)) (sent h : ℕ) (st1 : Stood P Q C) (es1 : List (Envelope M)) → Turns react owners shard st es sent h st1 es1 → (e : Envelope M) (rest : List (Envelope M)) (c : C) → IsPermutation es1 (e ∷ rest) → IsFor owners shard e → slice_get st1.cells (rank owners shard e.to) ≡ Some c
-      → (st2 : Stood P Q C) (es2 : List (Envelope M)) → st2 ≡ after react owners shard st1 e c → IsPermutation (rest ++ (react st1.problem e.to c e.msg).sent) es2 → Turns react owners shard st es (sent + length (react st1.problem e.to c e.msg).sent) (suc h) st2 es2
-  turns_more st es sent zero st1 es1 t e rest c perm for own st2 es2 is goes =
-      let none = t.0 in
-      let n : ℕ = length (react st1.problem e.to c e.msg).sent in
-      subst (λ z. Turns react owners shard z es (sent + n) 1 st2 es2) t.1 (e, rest, c, 0, IsPermutation-trans _ _ _ t.2 perm, for, own, omega arith, (refl, is, goes))
-  turns_more st es sent (suc h) st1 es1 t e rest c perm for own st2 es2 is goes =
-      let n : ℕ = length (react st1.problem e.to c e.msg).sent in
-      let sums = t.7 in
-      (t.0, t.1, t.2, t.3 + n, t.4, t.5, t.6, omega arith, turns_more (after react owners shard st t.0 t.2) (t.1 ++ (react st.problem t.0.to t.2 t.0.msg).sent) t.3 h st1 es1 t.8 e rest c perm for own st2 es2 is goes)
-
 module _ {P Q C M : Type 0} (problem : P → List C → Q) (holds : Q → List C → List (Envelope M) → Type 0) (weight : Q → List C → List (Envelope M) → ℕ) (bound : Q → ℕ) (react : Q → ℕ → C → M → Reaction C M) (laws : Obeys problem holds weight bound react) (owners : List ℕ) (shard : ℕ) where
   abbrev Stays : Stood P Q C → List (Envelope M) → Type 0
   Stays = Standing problem holds weight bound owners shard

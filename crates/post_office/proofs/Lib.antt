@@ -1,7 +1,8 @@
 pub mod Lists
+pub mod Pages
 pub mod Sorting
 pub mod Handling
-pub mod OneMore
+pub mod InOrder
 pub mod Holding
 pub mod Founds
 pub mod Stopping

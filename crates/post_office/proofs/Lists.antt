@@ -81,10 +81,12 @@ module _ {E : Type 0} where
       IsPermutation-append_left rest ((es ++ e ∷ []) ++ others) (pool (slice_set ess k (es ++ e ∷ []))) (IsPermutation-sym _ _ (pool_front ess k (es ++ e ∷ []) (get_within ess k es at))) in
       IsPermutation-trans _ _ _ one (IsPermutation-trans _ _ _ two (IsPermutation-trans _ _ _ three four))
 
-  -- the first envelope of a list comes first
-  pub pool_head : (ess : List (List E)) (k : ℕ) (e : E) (rest : List E) → slice_get ess k ≡ Some (e ∷ rest) → IsPermutation (pool ess) (e ∷ pool (slice_set ess k rest))
-  pool_head ess k e rest at =
-      IsPermutation-trans _ _ _ (pool_at ess k (e ∷ rest) at) (IsPermutation-append_right (e ∷ []) (rest ++ pool (slice_set ess k [])) (pool (slice_set ess k rest)) (IsPermutation-sym _ _ (pool_front ess k rest (get_within ess k (e ∷ rest) at))))
+  -- the first envelopes of a list come first
+  pub pool_part : (ess : List (List E)) (k : ℕ) (es rest : List E) → slice_get ess k ≡ Some (es ++ rest) → IsPermutation (pool ess) (es ++ pool (slice_set ess k rest))
+  pool_part ess k es rest at =
+      let others = pool (slice_set ess k []) in
+      let one : IsPermutation (pool ess) (es ++ (rest ++ others)) = subst (IsPermutation (pool ess)) (append_assoc es rest others) (pool_at ess k (es ++ rest) at) in
+      IsPermutation-trans _ _ _ one (IsPermutation-append_right es (rest ++ others) (pool (slice_set ess k rest)) (IsPermutation-sym _ _ (pool_front ess k rest (get_within ess k (es ++ rest) at))))
 
   -- a list is part of all,
   pub list_within : (ess : List (List E)) (k : ℕ) (es : List E) → slice_get ess k ≡ Some es → length es + length (pool (slice_set ess k [])) ≡ length (pool ess)

@@ -6,17 +6,17 @@ use denote.Param.Send.{IsSend, IsSync, sendable}
 use denote.Param.SendFields.{declared_send, declared_sync, as_row_sync}
 use denote.Hole.{as_row}
 use denote.Struct.Field.{row_field, u32-field}
-use Rattle.std.proofs.Crossing.{Vec-send, Vec-sync, send, frees, crosses}
+use Rattle.std.proofs.Crossing.{Vec-send, Vec-sync, crosses}
 use Rattle.std.specs.contracts.alloc.Global as Heap
 use Rattle.std.specs.contracts.impls.GlobalAllocator.TheImpl.{ghosts}
 use Rattle.std.specs.contracts.snapshot.Snapshot as Snapshot
 use Rattle.std.specs.contracts.vec.Vec as Vec
-use Rattle.std.specs.contracts.collections.LinkedList as Linked
-use Rattle.std.proofs.collections.LinkedList.TheSendSync as linked
 use Rattle.phase_core.specs.contracts.envelope.Envelope as Envelope
 use Rattle.phase_core.proofs.envelope.Envelope.TheSendSync as envelope
 use Rattle.phase_core.specs.declared.phase.Phase as phase
 use Rattle.std.specs.contracts.option.Option as Option
+use Rattle.post_office.specs.contracts.pile.Pile as Pile
+use Rattle.post_office.proofs.pile.Pile.TheSendSync as pile
 use Rattle.post_office.specs.contracts.plain.About as About
 use Rattle.post_office.specs.contracts.plain.Part as Part
 use Rattle.post_office.specs.contracts.load.PostCellLegalLoad.TheImpl as legal
@@ -48,15 +48,12 @@ bytes = Vec.the_row u8 Heap.the_row ghosts
 bytes_sync : IsSync bytes
 bytes_sync = Vec-sync u8 (search sendable)
 
-list_send : (M : RattleType) → IsSend M → IsSend (Linked.the_row (Envelope.the_row M) Heap.the_row ghosts)
-list_send M s = linked.the_send (Envelope.the_row M) Heap.the_row ghosts (envelope.the_send M s) send frees
-
 module _ (P C M Q : RattleType) (g : phase.Ghosts P.Denot C.Denot M.Denot Q.Denot) where
   pub box_send : IsSend C → IsSend M → IsSend (PostBox.the_row P C M Q g)
-  box_send c m = declared_send (PostBox.the_type P C M Q g) (known_send bytes, (number_send, (list_send M m, (Vec-send C c, tt))))
+  box_send c m = declared_send (PostBox.the_type P C M Q g) (known_send bytes, (number_send, (pile.the_send M m, (Vec-send C c, tt))))
 
   pub cell_send : IsSend C → IsSend M → IsSend (PostCell.the_row P C M Q g)
-  cell_send c m = declared_send (PostCell.the_type P C M Q g) (known_send P, (known_send (Vec.the_row C Heap.the_row ghosts), (known_send bytes, (number_send, (Vec-send C c, (Vec-send (Linked.the_row (Envelope.the_row M) Heap.the_row ghosts) (list_send M m), (Vec-send (Envelope.the_row M) (envelope.the_send M m), tt)))))))
+  cell_send c m = declared_send (PostCell.the_type P C M Q g) (known_send P, (known_send (Vec.the_row C Heap.the_row ghosts), (known_send bytes, (number_send, (Vec-send C c, (Vec-send (Pile.the_row M) (pile.the_send M m), (Vec-send (Envelope.the_row M) (envelope.the_send M m), tt)))))))
 
   pub seat_send : IsSend C → IsSend M → IsSend (BoardSeat.the_row (PostCell.the_row P C M Q g) (PostBox.the_row P C M Q g) (Option.the_row (About.the_row P Q)) (Part.the_row P Q C) (Envelope.the_row M)
       (legal.ghosts P C M Q g legal.no_dict legal.no_dict legal.no_dict legal.no_dict) (cell.ghosts P C M Q g cell.no_dict cell.no_dict cell.no_dict cell.no_dict) (box.ghosts P C M Q g box.no_dict box.no_dict box.no_dict box.no_dict))

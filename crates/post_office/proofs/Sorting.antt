@@ -29,3 +29,8 @@ module _ {X : Type 0} (P : X → Type 0) where
   pub all_back : (xs ys : List X) → All P (xs ++ ys) → All P ys
   all_back [] ys h = h
   all_back (x ∷ xs) ys h = all_back xs ys (All-tail P x (xs ++ ys) h)
+
+-- the first ones left a list
+pub still_sorted : {M : Type 0} (owners : List ℕ) (s : ℕ) (mail mail' : List (List (Envelope M))) (es rest : List (Envelope M)) → slice_get mail s ≡ Some (es ++ rest) → mail' ≡ slice_set mail s rest → Sorted owners mail → Sorted owners mail'
+still_sorted owners s mail mail' es rest at is sorted =
+    subst (Sorted owners) (sym is) (sorted_set owners mail s rest sorted (get_within mail s (es ++ rest) at) (all_back (λ e. IsFor owners s e) es rest (sorted s (es ++ rest) at)))

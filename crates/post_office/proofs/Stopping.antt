@@ -28,7 +28,7 @@ module _ {P Q C M : Type 0} (problem : P → List C → Q) (holds : Q → List C
     hands = hands ∙ d.hands;
   }
 
-pub stopped_view : {R E : Type 0} (v w x : View R E) (n : ℕ) → w ≡ record v { finds = w.finds; gave = w.gave } → x ≡ record w { stops = w.stops + 1; seen = n } → x ≡ record v { finds = x.finds; gave = x.gave; stops = v.stops + 1; seen = x.seen }
-stopped_view {R} {E} v w x n same stop =
-    let one : x ≡ record v { finds = w.finds; gave = w.gave; stops = v.stops + 1; seen = n } = stop ∙ ap (λ (z : View R E). record z { finds = w.finds; gave = w.gave; stops = z.stops + 1; seen = n }) same in
-    one ∙ (λ i. record v { finds = (sym (ap (λ (z : View R E). z.finds) one)) i; gave = (sym (ap (λ (z : View R E). z.gave) one)) i; stops = v.stops + 1; seen = (sym (ap (λ (z : View R E). z.seen) one)) i })
+pub stopped_view : {R E : Type 0} (v w x : View R E) (handled n : ℕ) → w ≡ record v { handled = handled; finds = w.finds; gave = w.gave } → x ≡ record w { stops = w.stops + 1; seen = n } → x ≡ record v { handled = handled; finds = x.finds; gave = x.gave; stops = v.stops + 1; seen = x.seen }
+stopped_view {R} {E} v w x handled n same stop =
+    let one : x ≡ record v { handled = handled; finds = w.finds; gave = w.gave; stops = v.stops + 1; seen = n } = stop ∙ ap (λ (z : View R E). record z { finds = w.finds; gave = w.gave; stops = z.stops + 1; seen = n }) same in
+    one ∙ (λ i. record v { handled = handled; finds = (sym (ap (λ (z : View R E). z.finds) one)) i; gave = (sym (ap (λ (z : View R E). z.gave) one)) i; stops = v.stops + 1; seen = (sym (ap (λ (z : View R E). z.seen) one)) i })

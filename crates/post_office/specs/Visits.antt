@@ -42,11 +42,11 @@ module _ {P Q C M : Type 0} (problem : P → List C → Q) (holds : Q → List C
 
   -- Busy comes only where another seat's number was found. After Done nothing waits, and each envelope that is left
   -- goes out to a shard whose box this visit found held. After want of memory the verdict has been seen, and the seat
-  -- has stopped once more.
+  -- has stopped once more. In both cases what this seat handled has grown by what was handled.
   abbrev pub Visited : ℕ → View (Part P Q C) (Envelope M) → View (Part P Q C) (Envelope M) → Result Visit Memory → Type 0
   Visited s v w (Ok (Busy turn)) = (turn ≢ v.number + 1) × (turn ≢ 0) × (w ≡ found s turn v)
   Visited s v w (Ok (Done handled sent left)) = (served : Served s v w handled sent left) × (served.waits ≡ 0)
       × All (λ (e : Envelope M). (t : ℕ) × IsFor served.owners t e × FoundHeld (shards + t) v.finds w.finds) served.remain
-      × (w ≡ record v { finds = w.finds; gave = w.gave })
+      × (w ≡ record v { handled = v.handled + handled; finds = w.finds; gave = w.gave })
   Visited s v w (Err e) = (handled : ℕ) × (sent : ℕ) × (left : ℕ) × Served s v w handled sent left
-      × (w ≡ record v { finds = w.finds; gave = w.gave; stops = v.stops + 1; seen = w.seen }) × (w.seen ≢ 0) × SeesAgain v.seen w.seen
+      × (w ≡ record v { handled = v.handled + handled; finds = w.finds; gave = w.gave; stops = v.stops + 1; seen = w.seen }) × (w.seen ≢ 0) × SeesAgain v.seen w.seen

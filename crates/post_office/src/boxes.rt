@@ -7,13 +7,13 @@ ghost use Rattle.post_office.specs.Finds.{FoundHeld, GivenBack, finds_of};
 
 use crate::load::{PostBox, PostCell};
 use crate::merging::{merge, post};
+use crate::pile::Pile;
 use crate::post::{Post, PostSeat};
-use phase_core::{Envelope, Phase};
+use phase_core::Phase;
 use quiet_table::{Load, Take};
-use std::collections::LinkedList;
 
-// Whether the list is there and has an envelope.
-pub(crate) fn has_some<M>(mail: &Vec<LinkedList<Envelope<M>>>, at: usize) -> bool
+// Whether the pile is there and has an envelope.
+pub(crate) fn has_some<M>(mail: &Vec<Pile<M>>, at: usize) -> bool
     ensures yes { result ≡ true → at < length mail.now.items }
     ensures no { result ≡ false → (es : _) → slice_get mail.now.items at ≡ Some es → es ≡ [] }
 {

@@ -1,6 +1,6 @@
 //! Closing a post.
 ghost use Rattle.std.specs.Prelude.{◌≡◌, ◌≢◌, ◌<◌, ◌≤◌, ◌+◌, ◌++◌, ℕ, [], All, IfOk, OnErr, Some, length, map, slice_get, vec_capacity, vec_len};
-ghost use Rattle.quiet_table.specs.BoardRule.{stops};
+ghost use Rattle.quiet_table.specs.BoardRule.{stops, handles};
 ghost use Rattle.post_office.specs.Lemmas.Ended.{AtRest, Settles};
 
 use crate::gathering::gather;
@@ -61,6 +61,7 @@ impl<P: Phase> Post<P> {
         ensures count { IfOk result (λ quiet. length quiet.cells ≡ length self.owners.items) }
         ensures handles_each { IfOk result (λ quiet. length quiet.cells ≤ quiet.handled) }
         ensures bounded { IfOk result (λ quiet. quiet.handled ≤ P.start_weight (P.problem self.phase self.first.value.items)) }
+        ensures handled { IfOk result (λ quiet. quiet.handled ≡ handles (map (λ s. s.place.me.0) seats.items)) }
         ensures stopped { OnErr result (1 ≤ stops (map (λ s. s.place.me.0) seats.items)) }
         ensures at_quiet { IfOk result (λ _. (s : _) → slice_get seats.items 0 ≡ Some s → s.place.me.0.seen ≢ 0 → s.place.me.0.seen ≡ 1) }
         ensures at_stop { OnErr result ((s : _) → slice_get seats.items 0 ≡ Some s → s.place.me.0.seen ≢ 0 → s.place.me.0.seen ≡ 2) }

@@ -14,6 +14,8 @@ mod mail;
 mod merging;
 mod open;
 mod opening;
+mod page;
+mod pile;
 mod plain;
 mod post;
 mod sending;

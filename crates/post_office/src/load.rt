@@ -3,13 +3,13 @@ ghost use Rattle.std.specs.Prelude.{◌≡◌, ◌^◌, ◌+◌, ◌<◌, ◌≤
 ghost use Rattle.quiet_table.specs.Contents.{pool};
 ghost use Rattle.post_office.specs.Shares.{IsFor, Sorted};
 
+use crate::pile::Pile;
 use crate::plain::{About, Part};
 use phase_core::{Envelope, Phase};
 use quiet_table::{LegalLoad, Load};
-use std::collections::LinkedList;
 use std::snapshot::Snapshot;
 
-/// A shard's cells with its envelopes: in `mail` a list for each shard. The one of this shard waits to be handled, the
+/// A shard's cells with its envelopes: in `mail` a pile for each shard. The one of this shard waits to be handled, the
 /// others go out. `fresh` were sent and have no place in `mail` yet.
 #[derive(Drop)]
 pub struct PostCell<P: Phase> {
@@ -18,7 +18,7 @@ pub struct PostCell<P: Phase> {
     pub owners: Snapshot<Vec<u8>>,
     pub shard: u32,
     pub cells: Vec<P::Cell>,
-    pub mail: Vec<LinkedList<Envelope<P::Msg>>>,
+    pub mail: Vec<Pile<P::Msg>>,
     pub fresh: Vec<Envelope<P::Msg>>,
     ghost few: { length (pool mail.items) + length fresh.items < 2 ^ 62 },
     ghost within: { (shard < length mail.items) × All (λ o. o < length mail.items) owners.value.items },
@@ -32,20 +32,21 @@ pub struct PostCell<P: Phase> {
 pub struct PostBox<P: Phase> {
     pub owners: Snapshot<Vec<u8>>,
     pub shard: u32,
-    pub envelopes: LinkedList<Envelope<P::Msg>>,
+    pub envelopes: Pile<P::Msg>,
     pub room: Vec<P::Cell>,
+    ghost small: { length envelopes < 2 ^ 62 },
     ghost ours: { All (λ e. IsFor owners.value.items shard e) envelopes },
     ghost roomy: { (room.items ≡ []) × (shard ≡ 0 → length owners.value.items ≤ vec_capacity room) },
 }
 
-/// How many envelopes the lists have.
-pub(crate) fn count_all<M>(mail: &Vec<LinkedList<Envelope<M>>>) -> u64
+/// How many envelopes the piles have.
+pub(crate) fn count_all<M>(mail: &Vec<Pile<M>>) -> u64
     requires few { length (pool mail.now.items) < 2 ^ 62 }
     ensures { result ≡ length (pool mail.now.items) }
 {
     let mut total = 0;
     for k in 0..mail.len() {
-        total += mail[k].len() as u64;
+        total += mail[k].len();
     }
     total
 }
@@ -108,6 +109,6 @@ impl<P: Phase> Load for PostBox<P> {
     ghost parcels = { λ b. b.envelopes };
 
     fn load(&self) -> u64 {
-        self.envelopes.len() as u64
+        self.envelopes.len()
     }
 }

@@ -1,15 +1,14 @@
-//! Putting what was sent into the list of the shard that it is for.
+//! Putting what was sent onto the pile of the shard that it is for.
 ghost use Rattle.std.specs.Prelude.{◌≡◌, ◌<◌, ◌++◌, ◌∷◌, [], All, IsPermutation, IfSome, IfNone, Some, length, slice_get, slice_set, slice_index, true};
 ghost use Rattle.quiet_table.specs.Contents.{pool};
 ghost use Rattle.post_office.specs.Shares.{Sorted};
 
+use crate::pile::Pile;
 use phase_core::Envelope;
-use std::alloc::AllocFailed;
-use std::collections::LinkedList;
 
-// Puts an envelope behind those of a list, or gives it back where memory is wanting.
-pub(crate) fn put<M>(
-    mail: &mut Vec<LinkedList<Envelope<M>>>,
+// Puts an envelope behind those of a pile, or gives it back where memory is wanting.
+pub(crate) fn put<M: Drop>(
+    mail: &mut Vec<Pile<M>>,
     shard: usize,
     envelope: Envelope<M>,
 ) -> Option<Envelope<M>>
@@ -17,18 +16,15 @@ pub(crate) fn put<M>(
     ensures done { IfNone result ((es : _) × (slice_get mail.old.items shard ≡ Some es) × (mail.new.items ≡ slice_set mail.old.items shard (es ++ envelope ∷ []))) }
     ensures back { IfSome result (λ e. (e ≡ envelope) × (mail.new.items ≡ mail.old.items)) }
 {
-    let list = &mut mail[shard];
-    match list.push_back(envelope) {
-        Ok(()) => None,
-        Err(AllocFailed { value }) => Some(value),
-    }
+    let pile = &mut mail[shard];
+    pile.push(envelope)
 }
 
-/// Puts all that was sent into the lists, as far as memory lasts, and says whether it did.
-pub(crate) fn sort_out<M>(
+/// Puts all that was sent, of which the last comes first, onto the piles, as far as memory lasts, and says whether it did.
+pub(crate) fn sort_out<M: Drop>(
     owners: &[u8],
     fresh: &mut Vec<Envelope<M>>,
-    mail: &mut Vec<LinkedList<Envelope<M>>>,
+    mail: &mut Vec<Pile<M>>,
 ) -> bool
     requires within { All (λ o. o < length mail.old.items) owners.now }
     requires addressed { All (λ e. e.to < length owners.now) fresh.old.items }

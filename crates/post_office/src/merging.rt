@@ -1,45 +1,31 @@
-//! Moving all envelopes between a shard's list and a box. It takes no memory.
+//! Moving all envelopes between a shard's pile and a box. It takes no memory.
 ghost use Rattle.std.specs.Prelude.{◌≡◌, ◌^◌, ◌+◌, ◌<◌, ◌++◌, [], Some, length, slice_get, slice_set};
 ghost use Rattle.quiet_table.specs.Contents.{pool};
 
 use crate::load::{PostBox, PostCell};
-use phase_core::{Envelope, Phase};
-use std::collections::LinkedList;
+use crate::pile::Pile;
+use phase_core::Phase;
 
-// Moves all of the box behind those of a list.
-fn pour_in<M>(
-    mail: &mut Vec<LinkedList<Envelope<M>>>,
-    shard: usize,
-    envelopes: &mut LinkedList<Envelope<M>>,
-)
+// Moves all of the box behind those of a pile.
+fn pour_in<M>(mail: &mut Vec<Pile<M>>, shard: usize, envelopes: &mut Pile<M>)
     requires within { shard < length mail.old.items }
     requires few { length (pool mail.old.items) + length envelopes.old < 2 ^ 62 }
     ensures moved { (es : _) × (slice_get mail.old.items shard ≡ Some es) × (mail.new.items ≡ slice_set mail.old.items shard (es ++ envelopes.old)) }
     ensures emptied { envelopes.new ≡ [] }
 {
-    let list = &mut mail[shard];
-    match list.append(envelopes) {
-        Ok(()) => {}
-        Err(_) => unreachable!(),
-    }
+    let pile = &mut mail[shard];
+    pile.append(envelopes);
 }
 
-// Moves all of a list behind those of the box.
-fn pour_out<M>(
-    mail: &mut Vec<LinkedList<Envelope<M>>>,
-    shard: usize,
-    envelopes: &mut LinkedList<Envelope<M>>,
-)
+// Moves all of a pile behind those of the box.
+fn pour_out<M>(mail: &mut Vec<Pile<M>>, shard: usize, envelopes: &mut Pile<M>)
     requires within { shard < length mail.old.items }
     requires few { length (pool mail.old.items) + length envelopes.old < 2 ^ 62 }
     ensures moved { (es : _) × (slice_get mail.old.items shard ≡ Some es) × (envelopes.new ≡ envelopes.old ++ es) }
     ensures emptied { mail.new.items ≡ slice_set mail.old.items shard [] }
 {
-    let list = &mut mail[shard];
-    match envelopes.append(list) {
-        Ok(()) => {}
-        Err(_) => unreachable!(),
-    }
+    let pile = &mut mail[shard];
+    envelopes.append(pile);
 }
 
 /// Moves what lies in the shard's box behind what waits.

@@ -5,11 +5,11 @@ ghost use Rattle.post_office.specs.Shares.{Ranked, rank};
 ghost use Rattle.post_office.specs.Lemmas.Dealt.{Bare, Dealt};
 
 use crate::load::{PostBox, PostCell};
+use crate::pile::Pile;
 use cello_num::Memory;
-use phase_core::{Envelope, Phase};
+use phase_core::Phase;
 use quiet_table::Load;
 use std::alloc::Global;
-use std::collections::LinkedList;
 use std::snapshot::Snapshot;
 
 fn zeros(alloc: Global, count: usize) -> Result<Vec<u32>, Memory>
@@ -38,16 +38,13 @@ pub(crate) fn rank_all(alloc: Global, owners: &[u8], shards: u32) -> Result<Vec<
     Ok(ranks)
 }
 
-// Lists without an envelope.
-pub(crate) fn empty_lists<M: Drop>(
-    alloc: Global,
-    count: usize,
-) -> Result<Vec<LinkedList<Envelope<M>>>, Memory>
+// Piles without an envelope.
+pub(crate) fn empty_piles<M: Drop>(alloc: Global, count: usize) -> Result<Vec<Pile<M>>, Memory>
     ensures { IfOk result (λ mail. mail.items ≡ replicate count []) }
 {
     let mut mail = Vec::new(alloc);
     for _ in 0..count {
-        mail.push(LinkedList::new(alloc))?;
+        mail.push(Pile::new(alloc))?;
     }
     Ok(mail)
 }
@@ -65,7 +62,7 @@ fn empty_cell<P: Phase>(
     ensures about { IfOk result (λ c. (c.phase.value ≡ phase.now) × (c.first.value.items ≡ first.now.items) × (c.owners.value.items ≡ owners.now.items) × (c.shard ≡ shard)) }
     ensures bare { IfOk result (λ c. (c.cells.items ≡ []) × (c.mail.items ≡ replicate shards []) × (c.fresh.items ≡ [])) }
 {
-    let mail = empty_lists(alloc, shards as usize)?;
+    let mail = empty_piles(alloc, shards as usize)?;
     Ok(PostCell {
         phase: Snapshot::of(phase),
         first: Snapshot::of(first),
@@ -106,7 +103,7 @@ fn empty_box<P: Phase>(alloc: Global, owners: &Vec<u8>, shard: u32) -> Result<Po
     Ok(PostBox {
         owners: Snapshot::of(owners),
         shard,
-        envelopes: LinkedList::new(alloc),
+        envelopes: Pile::new(alloc),
         room,
     })
 }

@@ -1,16 +1,16 @@
 //! Handling what waits at a shard.
-ghost use Rattle.std.specs.Prelude.{◌≡◌, ◌<◌, ◌++◌, ◌∷◌, [], ℕ, All, IfOk, OnErr, Some, IfSome, IfNone, IsPermutation, length, slice_get, slice_set, true};
+ghost use Rattle.std.specs.Prelude.{◌≡◌, ◌<◌, ◌≤◌, ◌++◌, ◌∷◌, [], ℕ, All, OnOk, OnErr, Some, drop, length, reverse, slice_get, slice_set, take, true};
 ghost use Rattle.quiet_table.specs.Contents.{pool};
 ghost use Rattle.post_office.specs.Shares.{IsFor, Ranked, Sorted, rank};
 ghost use Rattle.post_office.specs.Posts.{Standing, Turns, after, stood};
-ghost use Rattle.post_office.specs.Lemmas.Handled.{HandledFirst};
+ghost use Rattle.post_office.specs.Lemmas.Handled.{HandledFirst, HandledInOrder};
 
 use crate::load::PostCell;
 use crate::mail::sort_out;
+use crate::pile::Pile;
 use cello_num::Memory;
 use phase_core::{Envelope, Outbox, Phase};
 use std::alloc::Global;
-use std::collections::LinkedList;
 use std::snapshot::Snapshot;
 
 /// What was handled and sent, and whether all that waited was handled.
@@ -21,7 +21,15 @@ pub(crate) struct Tally {
     pub whole: bool,
 }
 
-// Handles one envelope at its cell, and gives what was sent. The first cells are for the proof of the call alone.
+// How many envelopes were handled one after another, and whether memory lasted.
+#[derive(Clone, Copy, Debug, PartialEq, Eq)]
+struct Round {
+    handled: usize,
+    lasted: bool,
+}
+
+// Handles one envelope at its cell. What it sends goes behind what was sent. The first cells are for the proof of the
+// call alone.
 fn handle_one<P: Phase>(
     alloc: Global,
     phase: &P,
@@ -31,31 +39,22 @@ fn handle_one<P: Phase>(
     shard: u32,
     cells: &mut Vec<P::Cell>,
     envelope: &Envelope<P::Msg>,
-) -> Result<Vec<Envelope<P::Msg>>, Memory>
+    out: &mut Outbox<P::Msg>,
+) -> Result<(), Memory>
     requires ours { IsFor owners.now shard envelope.now }
     requires ranked { Ranked owners.now ranks.now }
     requires stands { (rest : _) × Standing P.problem P.holds P.weight P.start_weight owners.now shard (stood P.problem phase.now _first.now.value.items cells.old.items) (envelope.now ∷ rest) }
-    ensures done { IfOk result (λ sent. (c : _) × (slice_get cells.old.items (rank owners.now shard envelope.now.to) ≡ Some c) × (cells.new.items ≡ slice_set cells.old.items (rank owners.now shard envelope.now.to) (P.react (P.problem phase.now _first.now.value.items) envelope.now.to c envelope.now.msg).cell) × (sent.items ≡ (P.react (P.problem phase.now _first.now.value.items) envelope.now.to c envelope.now.msg).sent)) }
-    ensures none { OnErr result (cells.new.items ≡ cells.old.items) }
+    ensures done { OnOk result ((c : _) × (slice_get cells.old.items (rank owners.now shard envelope.now.to) ≡ Some c) × (cells.new.items ≡ slice_set cells.old.items (rank owners.now shard envelope.now.to) (P.react (P.problem phase.now _first.now.value.items) envelope.now.to c envelope.now.msg).cell) × (out.new.items ≡ out.old.items ++ (P.react (P.problem phase.now _first.now.value.items) envelope.now.to c envelope.now.msg).sent)) }
+    ensures none { OnErr result ((cells.new.items ≡ cells.old.items) × (out.new.items ≡ out.old.items)) }
 {
-    let mut out = Outbox::new(alloc);
     let place = ranks[envelope.to as usize] as usize;
     let cell = &mut cells[place];
-    phase.handle(alloc, envelope.to, cell, &envelope.msg, &mut out)?;
-    Ok(out.into_items())
+    phase.handle(alloc, envelope.to, cell, &envelope.msg, out)?;
+    Ok(())
 }
 
-// Takes the first envelope out of a list.
-fn drop_first<M: Drop>(mail: &mut Vec<LinkedList<Envelope<M>>>, shard: usize)
-    requires some { (e : _) × (rest : _) × (slice_get mail.old.items shard ≡ Some (e ∷ rest)) }
-    ensures { (e : _) (rest : _) → slice_get mail.old.items shard ≡ Some (e ∷ rest) → mail.new.items ≡ slice_set mail.old.items shard rest }
-{
-    let list = &mut mail[shard];
-    drop(list.pop_front());
-}
-
-// Handles the first envelope that waits, where there is one, and says how many it sent.
-fn handle_next<P: Phase>(
+// Handles the envelopes of a page, in order, as far as memory lasts.
+fn handle_page<P: Phase>(
     alloc: Global,
     phase: &P,
     first: &Snapshot<Vec<P::Cell>>,
@@ -63,28 +62,85 @@ fn handle_next<P: Phase>(
     ranks: &[u32],
     shard: u32,
     cells: &mut Vec<P::Cell>,
-    mail: &mut Vec<LinkedList<Envelope<P::Msg>>>,
-    fresh: &mut Vec<Envelope<P::Msg>>,
-) -> Result<Option<u64>, Memory>
-    requires none_fresh { fresh.old.items ≡ [] }
+    page: &[Envelope<P::Msg>],
+    out: &mut Outbox<P::Msg>,
+) -> Round
+    requires none_sent { out.old.items ≡ [] }
+    requires ours { All (λ e. IsFor owners.now shard e) page.now }
+    requires ranked { Ranked owners.now ranks.now }
+    requires stands { (rest : _) × Standing P.problem P.holds P.weight P.start_weight owners.now shard (stood P.problem phase.now first.now.value.items cells.old.items) (page.now ++ rest) }
+    ensures handled { (result.handled ≤ length page.now) × HandledInOrder (P.react (P.problem phase.now first.now.value.items)) owners.now shard (take result.handled page.now) cells.old.items cells.new.items out.new.items }
+    ensures all { result.lasted ≡ true → result.handled ≡ length page.now }
+{
+    let mut handled: usize = 0;
+    for envelope in page {
+        match handle_one(
+            alloc, phase, first, owners, ranks, shard, cells, envelope, out,
+        ) {
+            Ok(()) => handled += 1,
+            Err(Memory) => {
+                return Round {
+                    handled,
+                    lasted: false,
+                };
+            }
+        }
+    }
+    Round {
+        handled,
+        lasted: true,
+    }
+}
+
+// Passes over the first envelopes of a pile.
+fn pass<M: Drop>(mail: &mut Vec<Pile<M>>, shard: usize, count: usize)
+    requires within { (es : _) × (slice_get mail.old.items shard ≡ Some es) × (count ≤ length es) }
+    ensures { (es : _) → slice_get mail.old.items shard ≡ Some es → mail.new.items ≡ slice_set mail.old.items shard (drop count es) }
+{
+    let pile = &mut mail[shard];
+    pile.pass(count);
+}
+
+// Handles the first page of what waits, in order, as far as memory lasts.
+fn handle_round<P: Phase>(
+    alloc: Global,
+    phase: &P,
+    first: &Snapshot<Vec<P::Cell>>,
+    owners: &[u8],
+    ranks: &[u32],
+    shard: u32,
+    cells: &mut Vec<P::Cell>,
+    mail: &mut Vec<Pile<P::Msg>>,
+    out: &mut Outbox<P::Msg>,
+) -> Round
+    requires none_sent { out.old.items ≡ [] }
     requires within { shard < length mail.old.items }
     requires sorted { Sorted owners.now mail.old.items }
     requires ranked { Ranked owners.now ranks.now }
     requires stands { Standing P.problem P.holds P.weight P.start_weight owners.now shard (stood P.problem phase.now first.now.value.items cells.old.items) (pool mail.old.items) }
-    ensures handled { IfOk result (λ r. IfSome r (HandledFirst (P.react (P.problem phase.now first.now.value.items)) owners.now shard mail.old.items mail.new.items cells.old.items cells.new.items fresh.new.items)) }
-    ensures ended { IfOk result (λ r. IfNone r ((slice_get mail.old.items shard ≡ Some []) × (mail.new.items ≡ mail.old.items) × (cells.new.items ≡ cells.old.items) × (fresh.new.items ≡ []))) }
-    ensures none { OnErr result ((mail.new.items ≡ mail.old.items) × (cells.new.items ≡ cells.old.items) × (fresh.new.items ≡ [])) }
+    ensures handled { HandledFirst (P.react (P.problem phase.now first.now.value.items)) owners.now shard result.handled mail.old.items mail.new.items cells.old.items cells.new.items out.new.items }
+    ensures ended { result.lasted ≡ true → result.handled ≡ 0 → (slice_get mail.new.items shard ≡ Some []) × (out.new.items ≡ []) }
 {
-    let list = &mail[shard as usize];
-    if list.is_empty() {
-        return Ok(None);
+    let pile = &mail[shard as usize];
+    if pile.is_empty() {
+        return Round {
+            handled: 0,
+            lasted: true,
+        };
     }
-    let envelope = list.front().unwrap();
-    let sent = handle_one(alloc, phase, first, owners, ranks, shard, cells, envelope)?;
-    let count = sent.len() as u64;
-    drop_first(mail, shard as usize);
-    *fresh = sent;
-    Ok(Some(count))
+    let page = pile.first_page();
+    let round = handle_page(alloc, phase, first, owners, ranks, shard, cells, page, out);
+    pass(mail, shard as usize, round.handled);
+    round
+}
+
+// What was sent, the last first.
+fn reversed<M>(out: Outbox<M>) -> Vec<Envelope<M>>
+    ensures { result.items ≡ reverse out.items }
+{
+    let mut sent = out.into_items();
+    sent.reverse();
+    sent
 }
 
 // Handles what waits, in order, and what that sends to cells of the shard itself, until nothing waits or memory is
@@ -97,7 +153,7 @@ fn serve_all<P: Phase>(
     ranks: &[u32],
     shard: u32,
     cells: &mut Vec<P::Cell>,
-    mail: &mut Vec<LinkedList<Envelope<P::Msg>>>,
+    mail: &mut Vec<Pile<P::Msg>>,
     fresh: &mut Vec<Envelope<P::Msg>>,
 ) -> Tally
     requires within { (shard < length mail.old.items) × All (λ o. o < length mail.old.items) owners.now }
@@ -114,21 +170,22 @@ fn serve_all<P: Phase>(
     let mut handled: u64 = 0;
     let mut sent: u64 = 0;
     while sort_out(owners, fresh, mail) {
-        match handle_next(
-            alloc, phase, first, owners, ranks, shard, cells, mail, fresh,
-        ) {
-            Ok(Some(count)) => {
-                handled += 1;
-                sent += count;
-            }
-            Ok(None) => {
-                return Tally {
-                    handled,
-                    sent,
-                    whole: true,
-                };
-            }
-            Err(Memory) => break,
+        let mut out = Outbox::new(alloc);
+        let round = handle_round(
+            alloc, phase, first, owners, ranks, shard, cells, mail, &mut out,
+        );
+        *fresh = reversed(out);
+        handled += round.handled as u64;
+        sent += fresh.len() as u64;
+        if !round.lasted {
+            break;
+        }
+        if round.handled == 0 {
+            return Tally {
+                handled,
+                sent,
+                whole: true,
+            };
         }
     }
     Tally {

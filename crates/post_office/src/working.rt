@@ -3,12 +3,26 @@ ghost use Rattle.std.specs.Prelude.{◌≡◌, ◌≢◌, ◌<◌, [], true};
 ghost use Rattle.post_office.specs.Seats.{StaysSeat};
 
 use crate::post::{Post, PostSeat};
+use crate::visit::Visit;
 use cello_io::Gate;
 use cello_num::Memory;
 use phase_core::Phase;
 use quiet_table::{Verdict, Wave};
 use std::alloc::Global;
 use std::sync::Wait;
+use std::thread::yield_now;
+
+// Whether a visit handled nothing.
+fn is_vain(visit: Visit) -> bool {
+    match visit {
+        Visit::Busy { turn: _ } => true,
+        Visit::Done {
+            handled,
+            sent: _,
+            left: _,
+        } => handled == 0,
+    }
+}
 
 impl<P: Phase> Post<P> {
     // Looks for the verdict, by a wave where a round of visits ends.
@@ -35,7 +49,8 @@ impl<P: Phase> Post<P> {
         }
     }
 
-    // Makes one visit, and says whether the seat has seen a verdict then.
+    // Makes one visit, and says whether the seat has seen a verdict then. Where nothing was handled, other threads are
+    // let run.
     fn work_once(&self, alloc: Global, seat: &mut PostSeat<P>, s: u32, ends_round: bool) -> bool
         requires own { seat.old.place.table_id ≡ self.now.board.table.shared.table_id }
         requires within { s < self.now.board.shards }
@@ -45,7 +60,13 @@ impl<P: Phase> Post<P> {
         ensures seen { result ≡ true → seat.new.place.me.0.seen ≢ 0 }
     {
         match self.visit(alloc, seat, s) {
-            Ok(_) => self.is_over(seat, ends_round),
+            Ok(visit) => {
+                let over = self.is_over(seat, ends_round);
+                if !over && is_vain(visit) {
+                    yield_now();
+                }
+                over
+            }
             Err(Memory) => true,
         }
     }

@@ -1,10 +1,10 @@
-use Rattle.std.proofs.Common.{◌∙◌, [], length, sym, subst, ap, arith}
+use Rattle.std.proofs.Common.{◌∙◌, [], length, length-append, sym, subst, ap, arith}
 use Rattle.std.specs.Prelude.{All}
 use Rattle.std.proofs.lemmas.List.Elements.{All-append, All-nil}
 use Rattle.quiet_table.specs.Contents.{pool}
 use Rattle.post_office.specs.Shares.{IsFor, Sorted}
 use Rattle.post_office.specs.Lemmas.PartLaws.{length_put, get_within}
-use Rattle.post_office.proofs.Lists.{length_written}
+use Rattle.post_office.proofs.Lists.{length_written, list_within}
 use Rattle.post_office.proofs.Sorting.{sorted_set}
 use Rattle.post_office.proofs.merging.post.Goals as goal
 
@@ -34,7 +34,10 @@ invariant_of-inbox g c =
     let moved = c.pour_out.ensures.moved in
     let es = moved.0 in
     let ours : All (λ e. IsFor owners box.shard e) es = subst (λ l. All (λ e. IsFor l box.shard e) es) (sym c.requires.same) (sh.sorted box.shard es moved.1) in
+    let few = list_within sh.mail.items box.shard es moved.1 in
+    let n = length-append box.envelopes es in
     record {
+      small = omega (arith, ap length moved.2, n, few, c.requires.few);
       ours = subst (All (λ e. IsFor owners box.shard e)) (sym moved.2) (All-append (λ e. IsFor owners box.shard e) box.envelopes es box.ours ours);
       roomy = box.roomy;
     }

@@ -56,5 +56,5 @@ returns-clause-done g c =
       cell,
       cell_is ph.problem ph.holds ph.weight ph.start_weight c.args.owners.now c.args.shard st e c.requires.stands.0 s c.requires.ours c.args.phase.now refl cell read,
       ap (λ z. slice_set cells.items z c.handle.new.cell) place ∙ ap (λ x. slice_set cells.items a x) (c.in_ok-handle.ensures.cell s.legal.cells flight stands ∙ ap (λ q. (ph.react q e.to cell e.msg).cell) (sym same)),
-      c.into_items.ensures.items ∙ (c.in_ok-handle.ensures.sent s.legal.cells flight stands ∙ (ap (λ l. l ++ (ph.react (ph.problem c.args.phase.now s.legal.cells) e.to cell e.msg).sent) c.new-out.ensures.empty ∙ ap (λ q. (ph.react q e.to cell e.msg).sent) (sym same))),
+      c.in_ok-handle.ensures.sent s.legal.cells flight stands ∙ ap (λ q. c.args.out.now.items ++ (ph.react q e.to cell e.msg).sent) (sym same),
     )

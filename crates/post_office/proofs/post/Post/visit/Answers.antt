@@ -14,7 +14,7 @@ use Rattle.post_office.specs.Finds.{finds_of, FoundHeld}
 use Rattle.post_office.specs.Visits.{Served}
 use Rattle.post_office.proofs.Handling.{read_of, stands_after, turns_perm}
 use Rattle.post_office.proofs.Holding.{cell_number, cell_about, cell_stands}
-use Rattle.post_office.proofs.Founds.{found_same, own_tried, own_empty_all, Kept, kept_any, kept_then, outgoing}
+use Rattle.post_office.proofs.Founds.{found_same, own_tried, own_empty_all, Kept, kept_any, kept_then, kept_counted, outgoing}
 use Rattle.post_office.proofs.Stopping.{served_stop, stopped_view}
 use Rattle.post_office.proofs.post.Post.visit.Goals as goal
 
@@ -269,15 +269,15 @@ returns-then-not-tally-clause-visited g c =
       hands = hands_same;
     } in
     let kept_take : Kept v vt = kept_any v vt vt.hands v.finds v.gave (told ∙ (λ i. record v { hands = (sym (ap (λ z. z.hands) told)) i })) in
-    let kept_count : Kept vf vc = kept_any vf vc vc.hands vf.finds vf.gave (settled ∙ (λ i. record vf { hands = (sym (ap (λ z. z.hands) settled)) i })) in
     let kept_give : Kept vs w = kept_any vs w w.hands vs.finds w.gave (given ∙ (λ i. record vs { hands = w.hands; gave = (sym (ap (λ z. z.gave) given)) i })) in
-    let whole : Kept v w = kept_then v vt w kept_take (kept_then vt vf w c.fetch-served.ensures.rest (kept_then vf vc w kept_count (kept_then vc vs w c.send-served.ensures.rest kept_give))) in
-    let same : w ≡ record v { finds = w.finds; gave = w.gave } = whole ∙ (λ i. record v { hands = hands_same i; finds = w.finds; gave = w.gave }) in
+    let counted = v.handled + tally.handled in
+    let whole : w ≡ record v { handled = counted; hands = w.hands; finds = w.finds; gave = w.gave } = kept_counted v vf vc w _ tally.handled (kept_then v vt vf kept_take c.fetch-served.ensures.rest) settled (kept_then vc vs w c.send-served.ensures.rest kept_give) in
+    let same : w ≡ record v { handled = counted; finds = w.finds; gave = w.gave } = whole ∙ (λ i. record v { handled = counted; hands = hands_same i; finds = w.finds; gave = w.gave }) in
     let x = c.stop-verdict.new.seat.place.me.0 in
     let stop = c.stop-verdict.ensures.told in
     let stopped : Served ph.problem ph.holds ph.weight ph.start_weight ph.react S s v x tally.handled tally.sent c.load-left.result = served_stop ph.problem ph.holds ph.weight ph.start_weight ph.react S s v w x tally.handled tally.sent c.load-left.result served (ap (λ z. z.gave) stop) (ap (λ z. z.finds) stop) (ap (λ z. z.hands) stop) in
     let seen_is = ap (λ z. z.seen) stop in
-    let all : x ≡ record v { finds = x.finds; gave = x.gave; stops = v.stops + 1; seen = x.seen } = stopped_view v w x _ same stop in
+    let all : x ≡ record v { handled = counted; finds = x.finds; gave = x.gave; stops = v.stops + 1; seen = x.seen } = stopped_view v w x counted _ same stop in
     (tally.handled, tally.sent, c.load-left.result, stopped, all, (λ z. c.stop-verdict.ensures.set (sym seen_is ∙ z)), (λ n. seen_is ∙ (c.stop-verdict.ensures.again (λ z. n (sym (ap (λ y. y.seen) same) ∙ z)) ∙ ap (λ y. y.seen) same)))
 
 pub returns-clause-visited : goal.returns-clause-visited
@@ -362,10 +362,10 @@ returns-clause-visited g c =
       hands = hands_same;
     } in
     let kept_take : Kept v vt = kept_any v vt vt.hands v.finds v.gave (told ∙ (λ i. record v { hands = (sym (ap (λ z. z.hands) told)) i })) in
-    let kept_count : Kept vf vc = kept_any vf vc vc.hands vf.finds vf.gave (settled ∙ (λ i. record vf { hands = (sym (ap (λ z. z.hands) settled)) i })) in
     let kept_give : Kept vs w = kept_any vs w w.hands vs.finds w.gave (given ∙ (λ i. record vs { hands = w.hands; gave = (sym (ap (λ z. z.gave) given)) i })) in
-    let whole : Kept v w = kept_then v vt w kept_take (kept_then vt vf w c.fetch-served.ensures.rest (kept_then vf vc w kept_count (kept_then vc vs w c.send-served.ensures.rest kept_give))) in
-    let same : w ≡ record v { finds = w.finds; gave = w.gave } = whole ∙ (λ i. record v { hands = hands_same i; finds = w.finds; gave = w.gave }) in
+    let counted = v.handled + tally.handled in
+    let whole : w ≡ record v { handled = counted; hands = w.hands; finds = w.finds; gave = w.gave } = kept_counted v vf vc w _ tally.handled (kept_then v vt vf kept_take c.fetch-served.ensures.rest) settled (kept_then vc vs w c.send-served.ensures.rest kept_give) in
+    let same : w ≡ record v { handled = counted; finds = w.finds; gave = w.gave } = whole ∙ (λ i. record v { handled = counted; hands = hands_same i; finds = w.finds; gave = w.gave }) in
     let all = c.serve-served.ensures.whole (first_of (search rules, grind (arith, common_steps))) in
     let none_waits : slice_get fin.mail.items s ≡ Some [] = c.send-served.ensures.waiting ∙ (ap (λ n. slice_get sv.mail.items n) (sym (kf.3 ∙ number)) ∙ all.0) in
     let fresh_none : fin.fresh.items ≡ [] = ap (λ z. z.items) ke.5 ∙ all.1 in
