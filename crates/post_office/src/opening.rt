@@ -49,7 +49,7 @@ pub(crate) fn empty_piles<M: Drop>(alloc: Global, count: usize) -> Result<Vec<Pi
     Ok(mail)
 }
 
-// A shard's cell without cells.
+// A shard's cell without cells, with room for its part of them where all shards own as many.
 fn empty_cell<P: Phase>(
     alloc: Global,
     phase: &P,
@@ -63,12 +63,13 @@ fn empty_cell<P: Phase>(
     ensures bare { IfOk result (λ c. (c.cells.items ≡ []) × (c.mail.items ≡ replicate shards []) × (c.fresh.items ≡ [])) }
 {
     let mail = empty_piles(alloc, shards as usize)?;
+    let cells = Vec::with_capacity(alloc, owners.len() / shards as usize + 1)?;
     Ok(PostCell {
         phase: Snapshot::of(phase),
         first: Snapshot::of(first),
         owners: Snapshot::of(owners),
         shard,
-        cells: Vec::new(alloc),
+        cells,
         mail,
         fresh: Vec::new(alloc),
     })

@@ -12,8 +12,8 @@ const FIRST_ROOM: usize = 16;
 
 const NEXT_ROOM: usize = 128;
 
-/// Envelopes in the order in which they came, in pages, none of which is empty. A page whose envelopes are all handled
-/// is put aside, so that the thread which handles them need not let them go.
+/// Envelopes in the order in which they came, in pages, none of which is empty. Pages whose envelopes are all handled are
+/// put aside, until they are let go together.
 #[derive(Drop)]
 pub struct Pile<M> {
     pages: LinkedList<Page<M>>,
@@ -126,6 +126,13 @@ impl<M> Pile<M> {
 }
 
 impl<M: Drop> Pile<M> {
+    /// Lets go of the pages that were put aside.
+    pub(crate) fn let_go(&mut self)
+        ensures { self.new ≡ self.old }
+    {
+        self.spent.clear();
+    }
+
     /// Puts an envelope behind the others, or gives it back where memory is wanting.
     pub(crate) fn push(&mut self, envelope: Envelope<M>) -> Option<Envelope<M>>
         ensures done { IfNone result (self.new ≡ self.old ++ envelope ∷ []) }

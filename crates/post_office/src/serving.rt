@@ -101,7 +101,16 @@ fn pass<M: Drop>(mail: &mut Vec<Pile<M>>, shard: usize, count: usize)
     pile.pass(count);
 }
 
-// Handles the first page of what waits, in order, as far as memory lasts.
+// Lets go of the handled pages of a pile.
+fn let_go<M: Drop>(mail: &mut Vec<Pile<M>>, shard: usize)
+    requires within { shard < length mail.old.items }
+    ensures { mail.new.items ≡ mail.old.items }
+{
+    let pile = &mut mail[shard];
+    pile.let_go();
+}
+
+// Handles the first page of what waits, in order, as far as memory lasts. Where none waits, the handled ones are let go.
 fn handle_round<P: Phase>(
     alloc: Global,
     phase: &P,
@@ -123,6 +132,7 @@ fn handle_round<P: Phase>(
 {
     let pile = &mail[shard as usize];
     if pile.is_empty() {
+        let_go(mail, shard as usize);
         return Round {
             handled: 0,
             lasted: true,

@@ -9,10 +9,10 @@ pub invariant_of-result : goal.invariant_of-result
 invariant_of-result g c =
     let mail = c.in_ok-mail.mail.items in
     let is = c.in_ok-mail.ensures in
-    let none = c.new-2.ensures.items in
+    let none = c.new.ensures.items in
     let owners = c.of-3.result.value.items in
     let wide = ap length is ∙ length_none _ c.args.shards in
-    let few = few_none mail c.new-2.result.items c.args.shards is none in
+    let few = few_none mail c.new.result.items c.args.shards is none in
     record {
       few = omega (arith, few);
       within = (rw wide c.requires.within.0, rw (wide, c.of-3.ensures) c.requires.within.1);

@@ -16,7 +16,7 @@ returns-then-is_empty-clause-handled g c =
     let s = c.args.shard in
     let pile = c.index-pile.result.now in
     let at : slice_get mail s ≡ Some pile = get_at mail s pile c.requires.within ∙ ap (λ z. Some z) (sym c.index-pile.ensures) in
-    record { es = []; rest = pile; first = at; counts = refl; left = sym (put_same mail s pile at); handled = (refl, c.requires.none_sent) }
+    record { es = []; rest = pile; first = at; counts = refl; left = c.let_go.ensures ∙ sym (put_same mail s pile at); handled = (refl, c.requires.none_sent) }
 
 pub returns-then-is_empty-clause-ended : goal.returns-then-is_empty-clause-ended
 returns-then-is_empty-clause-ended g c = λ lasted none.
@@ -25,7 +25,7 @@ returns-then-is_empty-clause-ended g c = λ lasted none.
     let pile = c.index-pile.result.now in
     let at : slice_get mail s ≡ Some pile = get_at mail s pile c.requires.within ∙ ap (λ z. Some z) (sym c.index-pile.ensures) in
     let empty : pile ≡ [] = nothing pile (first_of (search rules, grind (arith, common_steps))) in
-    (at ∙ ap (λ z. Some z) empty, c.requires.none_sent)
+    (ap (λ l. slice_get l s) c.let_go.ensures ∙ (at ∙ ap (λ z. Some z) empty), c.requires.none_sent)
 
 pub handle_page-round-requires-clause-ours : goal.handle_page-round-requires-clause-ours
 handle_page-round-requires-clause-ours g c =
