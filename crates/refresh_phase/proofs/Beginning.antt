@@ -1,11 +1,11 @@
 -- The first cells begin the phase of their problem.
-use Rattle.std.proofs.Common.{◌≡◌, ℕ, zero, suc, ◌+◌, ◌*◌, ◌^◌, ◌<◌, ◌≤◌, false, List, [], ◌∷◌, ◌++◌, Some, get_or, length, map, refl, sym, ap, ◌∙◌, subst, arith, length-append, inl, inr}
+use Rattle.std.proofs.Common.{◌≡◌, ℕ, suc, ◌+◌, ◌*◌, ◌^◌, ◌<◌, ◌≤◌, List, [], ◌∷◌, ◌++◌, Some, get_or, length, map, refl, sym, ap, ◌∙◌, subst, arith, length-append}
 use Rattle.std.proofs.Math.Nat.{mul-pos}
 use Rattle.std.proofs.lemmas.Nat.{pow_pos}
-use Rattle.std.specs.Prelude.{All, Contains, slice_get, sum}
+use Rattle.std.specs.Prelude.{Contains, slice_get, sum}
 use Rattle.std.proofs.lemmas.List.{length-map}
 use Rattle.std.proofs.lemmas.List.Elements.{All-weaker, All-contains_itself}
-use Rattle.std.proofs.lemmas.Option.{none-some, same_Some, slice_get-get_or}
+use Rattle.std.proofs.lemmas.Option.{slice_get-get_or}
 use Rattle.phase_core.specs.declared.envelope.Envelope.{Envelope}
 use Rattle.phase_core.specs.Machine.{start_flight}
 use Rattle.phase_core.specs.Lemmas.Lookups.{get-map, get-map_back, Contains-get}
@@ -17,8 +17,8 @@ use Rattle.block_index.specs.Places.{Cube, Grid, IsDomain, IsInside}
 use Rattle.leaf_set.specs.Meshes.{IsMesh, cover_count}
 use Rattle.leaf_set.specs.Tiling.{IsTiling}
 use Rattle.leaf_set.proofs.LeafCounts.{length-IsMesh_limit}
-use Rattle.block_fields.specs.Blocks.{BlockState, IsBlock, amounts_of}
-use Rattle.block_fields.specs.BlockStates.{AreBlocksOf, IsBlockOf, state_of}
+use Rattle.block_fields.specs.Blocks.{BlockState, amounts_of}
+use Rattle.block_fields.specs.BlockStates.{AreBlocksOf, state_of}
 use Rattle.block_fields.specs.States.{State, IsState}
 use Rattle.block_fields.proofs.StatesOfBlocks.{HaveCells-amounts, IsState-state_by}
 use Rattle.ghost_pieces.specs.Pieces.{PieceState, AreOwedPieces, zero_amounts, most_owed}
@@ -28,7 +28,7 @@ use Rattle.refresh_phase.specs.Cells.{Setting, LeafPart, LeafState, RefreshProbl
 use Rattle.refresh_phase.specs.React.{refresh_start, sent_piece, sent_pieces}
 use Rattle.refresh_phase.specs.Problem.{IsFresh, IsLeafPart, IsRefreshProblem, RefreshBegins, refresh_plan}
 use Rattle.refresh_phase.specs.States.{IsRightMsg}
-use Rattle.refresh_phase.specs.Lemmas.FirstCells.{IsFirstCell, AreFirstCells}
+use Rattle.refresh_phase.specs.Lemmas.FirstCells.{AreFirstCells}
 use Rattle.refresh_phase.proofs.Messages.{all_right}
 
 pub map-twice : {A B C : Type 0} (f : A → B) (g : B → C) (xs : List A) → map g (map f xs) ≡ map (λ x. g (f x)) xs

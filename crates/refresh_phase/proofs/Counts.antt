@@ -1,13 +1,13 @@
 -- Each region is counted once among all messages: by its one piece.
-use Rattle.std.proofs.Common.{◌≡◌, ℕ, zero, suc, ◌+◌, ◌*◌, ◌<◌, ◌≤◌, Bool, true, false, cond, List, [], ◌∷◌, ◌++◌, Some, length, map, refl, sym, ap, ◌∙◌, subst, arith, ◌⊎◌, inl, inr}
-use Rattle.std.specs.Prelude.{All, Contains, slice_get, sum_by, ◌==◌, ◌&&◌}
-use Rattle.std.proofs.lemmas.Bool.{cases_Bool, cases_eq, eq-eqb, ne_eqb}
+use Rattle.std.proofs.Common.{◌≡◌, ℕ, zero, suc, ◌+◌, ◌*◌, ◌≤◌, Bool, true, false, cond, List, [], ◌∷◌, ◌++◌, Some, length, map, refl, sym, ap, ◌∙◌, subst, arith, ◌⊎◌, inl, inr}
+use Rattle.std.specs.Prelude.{Contains, slice_get, sum_by, ◌==◌, ◌&&◌}
+use Rattle.std.proofs.lemmas.Bool.{cases_eq, eq-eqb, ne_eqb}
 use Rattle.std.proofs.lemmas.List.Elements.{All-weaker, All-contains_itself}
 use Rattle.std.proofs.lemmas.List.Sums.{sum_by-append, sum_by-cons, sum_by-le, get_or-le-sum_by}
 use Rattle.std.proofs.lemmas.Option.{none-some, same_Some}
 use Rattle.phase_core.specs.declared.envelope.Envelope.{Envelope}
 use Rattle.phase_core.specs.Machine.{start_flight}
-use Rattle.phase_core.specs.Lemmas.Lookups.{get-map, get-map_back, Contains-get, Contains-at}
+use Rattle.phase_core.specs.Lemmas.Lookups.{Contains-get, Contains-at}
 use Rattle.phase_core.specs.Lemmas.Starts.{start_flight-suc}
 use Rattle.owed_phase.specs.Plans.{owed_from, all_of}
 use Rattle.owed_phase.specs.Lemmas.Moves.{Contains-cons_more}
@@ -17,13 +17,13 @@ use Rattle.ghost_pieces.specs.Filing.{Source, is_same_source, source_of}
 use Rattle.ghost_pieces.specs.Pieces.{PieceState}
 use Rattle.ghost_pieces.specs.Regions.{Region, IsRegion, Member, Once}
 use Rattle.refresh_phase.specs.declared.refresh_msg.RefreshMsg.{RefreshMsg}
-use Rattle.refresh_phase.specs.declared.refresh_msg.RefreshMsg.TheVariants.{Start, Piece}
+use Rattle.refresh_phase.specs.declared.refresh_msg.RefreshMsg.TheVariants.{Start}
 use Rattle.refresh_phase.specs.Cells.{LeafPart, LeafState, RefreshProblem, blank, own_cells, state_in}
 use Rattle.refresh_phase.specs.React.{refresh_start, sent_piece, sent_pieces}
 use Rattle.refresh_phase.specs.Problem.{IsRefreshProblem, refresh_plan}
-use Rattle.refresh_phase.specs.States.{same_region, piece_of, owed_pieces_of, flying_pieces_of}
+use Rattle.refresh_phase.specs.States.{same_region, piece_of, owed_pieces_of}
 use Rattle.refresh_phase.proofs.GhostFacts.{facts}
-use Rattle.refresh_phase.proofs.Messages.{region_sent, part_of_leaf}
+use Rattle.refresh_phase.proofs.Messages.{part_of_leaf}
 
 abbrev counted : Bool → ℕ
 counted b = cond b 1 0

@@ -1,25 +1,25 @@
 -- What the invariant says of each cell, region and message.
-use Rattle.std.proofs.Common.{◌≡◌, ℕ, ◌+◌, ◌<◌, ◌≤◌, Bool, true, false, cond, List, [], ◌∷◌, ◌++◌, Some, length, map, refl, sym, ap, ◌∙◌, subst, arith, ◌⊎◌, inl, inr}
+use Rattle.std.proofs.Common.{◌≡◌, ℕ, ◌+◌, ◌≤◌, Bool, true, false, cond, List, [], Some, map, refl, sym, ap, ◌∙◌, subst, arith, inl, inr}
 use Rattle.std.specs.Prelude.{All, Contains, slice_get, sum_by}
 use Rattle.std.proofs.lemmas.Bool.{cases_Bool, false≢true}
 use Rattle.std.proofs.lemmas.List.Elements.{All-weaker, All-contains_itself}
-use Rattle.std.proofs.lemmas.Option.{none-some, same_Some}
+use Rattle.std.proofs.lemmas.Option.{same_Some}
 use Rattle.phase_core.specs.declared.envelope.Envelope.{Envelope}
 use Rattle.phase_core.specs.Lemmas.Lookups.{Contains-get}
-use Rattle.owed_phase.specs.Plans.{owed_from, inbox, after, all_of}
+use Rattle.owed_phase.specs.Plans.{owed_from, inbox, all_of}
 use Rattle.owed_phase.specs.Rest.{HasHandled}
 use Rattle.owed_phase.specs.Lemmas.Inboxes.{inbox-has, inbox-of}
 use Rattle.owed_phase.specs.Lemmas.Orders.{of_flight, handled_sum, all_handled_meet}
 use Rattle.owed_phase.specs.Lemmas.States.{cell_handled, in_three_states, starts_in_flight}
-use Rattle.ghost_pieces.specs.Filing.{Source, is_filed, is_same_source, source_of}
+use Rattle.ghost_pieces.specs.Filing.{Source, is_filed, is_same_source}
 use Rattle.ghost_pieces.specs.Pieces.{PieceState}
 use Rattle.ghost_pieces.specs.Regions.{Region, IsRegion}
 use Rattle.std.specs.List.{list_any}
 use Rattle.refresh_phase.specs.declared.refresh_msg.RefreshMsg.{RefreshMsg}
 use Rattle.refresh_phase.specs.declared.refresh_msg.RefreshMsg.TheVariants.{Start, Piece}
-use Rattle.refresh_phase.specs.Cells.{LeafPart, LeafState, RefreshProblem, blank, own_cells, state_in}
+use Rattle.refresh_phase.specs.Cells.{LeafPart, LeafState, RefreshProblem, blank, state_in}
 use Rattle.refresh_phase.specs.Problem.{IsRefreshProblem, RefreshHolds, refresh_plan}
-use Rattle.refresh_phase.specs.States.{same_region, piece_of, filed_in, owed_pieces_of, flying_pieces_of, IsRightMsg, IsRightCell, IsRefreshState}
+use Rattle.refresh_phase.specs.States.{same_region, piece_of, filed_in, owed_pieces_of, IsRightMsg, IsRightCell, IsRefreshState}
 use Rattle.refresh_phase.specs.Lemmas.RefreshLaws.{is_plan}
 use Rattle.refresh_phase.proofs.GhostFacts.{facts}
 use Rattle.refresh_phase.proofs.Messages.{all_right, deep, some_cells}

@@ -1,5 +1,5 @@
 -- A cell after some of the messages to it.
-use Rattle.std.proofs.Common.{◌≡◌, ℕ, ◌*◌, ◌≤◌, Bool, true, false, cond, List, [], ◌∷◌, ◌++◌, Some, length, map, refl, sym, ap, ◌∙◌, subst, arith, ◌⊎◌, inl, inr}
+use Rattle.std.proofs.Common.{◌≡◌, ℕ, Bool, true, false, cond, List, [], ◌∷◌, ◌++◌, Some, length, map, refl, sym, ap, ◌∙◌, subst, arith, ◌⊎◌, inl, inr}
 use Rattle.std.specs.Prelude.{Contains, slice_get}
 use Rattle.std.proofs.lemmas.Bool.{cases_Bool, false≢true}
 use Rattle.std.proofs.lemmas.List.Elements.{Contains-append_cases}
@@ -9,8 +9,8 @@ use Rattle.owed_phase.specs.Plans.{inbox, all_of}
 use Rattle.owed_phase.specs.Rest.{IsAmong, HasHandled}
 use Rattle.owed_phase.specs.Lemmas.Moves.{Contains-cons_more}
 use Rattle.owed_phase.specs.Lemmas.States.{by_messages}
-use Rattle.block_fields.specs.Blocks.{BlockState, IsBlock}
-use Rattle.ghost_pieces.specs.Filing.{Source, after_filing, is_filed, source_of, with_filed, with_piece}
+use Rattle.block_fields.specs.Blocks.{IsBlock}
+use Rattle.ghost_pieces.specs.Filing.{Source, is_filed, source_of, with_filed, with_piece}
 use Rattle.ghost_pieces.specs.Pieces.{PieceState, CarriesSamples, FitsSize}
 use Rattle.ghost_pieces.specs.Regions.{Region, Member, Once}
 use Rattle.ghost_pieces.specs.Shells.{HoldsFiled, IsSourceOf}

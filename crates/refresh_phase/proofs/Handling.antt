@@ -1,23 +1,23 @@
 -- Where a message is handled: a cell can fill what it owes, and there is room for a piece.
-use Rattle.std.proofs.Common.{◌≡◌, ℕ, ◌<◌, ◌≤◌, ◌^◌, Bool, true, false, cond, List, [], Some, length, map, refl, sym, ap, ◌∙◌, subst, ◌⊎◌, inl, inr}
+use Rattle.std.proofs.Common.{◌≡◌, ℕ, ◌<◌, ◌≤◌, ◌^◌, true, List, Some, length, map, sym, ap, ◌∙◌, subst, ◌⊎◌, inl, inr}
 use Rattle.std.specs.Prelude.{Contains, slice_get, sum}
 use Rattle.std.proofs.lemmas.Bool.{cases_Bool}
 use Rattle.std.proofs.lemmas.Option.{same_Some}
 use Rattle.phase_core.specs.declared.envelope.Envelope.{Envelope}
 use Rattle.phase_core.specs.Lemmas.Lookups.{Contains-get}
 use Rattle.phase_core.specs.Stands.{CanHandle}
-use Rattle.owed_phase.specs.Plans.{inbox, all_of, Due}
+use Rattle.owed_phase.specs.Plans.{inbox, Due}
 use Rattle.owed_phase.specs.Rest.{HasHandled}
 use Rattle.owed_phase.specs.Lemmas.OwingLaws.{due_there}
 use Rattle.owed_phase.specs.Lemmas.Orders.{is_one}
 use Rattle.owed_phase.specs.Lemmas.States.{due_handled}
 use Rattle.block_fields.specs.Blocks.{BlockState, amounts_of}
 use Rattle.ghost_pieces.specs.Filing.{is_filed}
-use Rattle.ghost_pieces.specs.Pieces.{PieceState, CarriesSamples, FitsSize, HasRegion}
+use Rattle.ghost_pieces.specs.Pieces.{PieceState, FitsSize, HasRegion}
 use Rattle.ghost_pieces.specs.Regions.{most_regions}
 use Rattle.refresh_phase.specs.declared.refresh_msg.RefreshMsg.{RefreshMsg}
-use Rattle.refresh_phase.specs.declared.refresh_msg.RefreshMsg.TheVariants.{Start, Piece}
-use Rattle.refresh_phase.specs.Cells.{Setting, LeafPart, LeafState, RefreshProblem, blank, own_cells, problem_of, state_in}
+use Rattle.refresh_phase.specs.declared.refresh_msg.RefreshMsg.TheVariants.{Piece}
+use Rattle.refresh_phase.specs.Cells.{Setting, LeafPart, LeafState, RefreshProblem, blank, problem_of, state_in}
 use Rattle.refresh_phase.specs.Problem.{IsRefreshProblem, RefreshHolds, refresh_plan}
 use Rattle.refresh_phase.specs.States.{IsRightMsg}
 use Rattle.refresh_phase.specs.Lemmas.RefreshLaws.{is_plan}
@@ -25,7 +25,7 @@ use Rattle.refresh_phase.specs.Lemmas.Sending.{CanFill, CanSend}
 use Rattle.refresh_phase.proofs.EachState.{owed-waits}
 use Rattle.refresh_phase.proofs.GhostFacts.{facts}
 use Rattle.refresh_phase.proofs.Goings.{Goes, handled_goes, piece_fits}
-use Rattle.refresh_phase.proofs.Messages.{all_right, deep, some_cells, own_leaf, own_depth, own_fields, part_place}
+use Rattle.refresh_phase.proofs.Messages.{all_right, deep, some_cells, own_leaf, own_depth, own_fields}
 
 -- a cell of part k that owes all of its pieces can fill them
 can_send : (p : RefreshProblem) (valid : IsRefreshProblem p) (i : ℕ) (k : LeafPart) (c : LeafState) (done : List RefreshMsg) → slice_get p.parts i ≡ Some k → Goes p i k c done → CanSend p.setting.grid c

@@ -9,4 +9,5 @@ pub mod Handling
 pub mod Sends
 pub mod FirstBlocks
 pub mod Beginning
+pub mod MadeCells
 pub mod Settled

@@ -1,9 +1,9 @@
 -- All messages of a phase: starts, and the pieces of the leaves, which carry samples to their receivers.
-use Rattle.std.proofs.Common.{◌≡◌, ℕ, zero, suc, ◌+◌, ◌*◌, ◌<◌, ◌≤◌, List, [], ◌∷◌, ◌++◌, Some, length, map, refl, sym, ap, ◌∙◌, subst, arith, inl, inr}
+use Rattle.std.proofs.Common.{◌≡◌, ℕ, zero, suc, ◌*◌, ◌<◌, ◌≤◌, List, [], ◌∷◌, ◌++◌, Some, length, map, refl, sym, ap, ◌∙◌, subst, arith, inl, inr}
 use Rattle.std.specs.Prelude.{Contains, slice_get}
 use Rattle.std.proofs.lemmas.List.{length-map}
 use Rattle.std.proofs.lemmas.List.Elements.{Contains-append_cases, Contains-append_left}
-use Rattle.std.proofs.lemmas.Option.{same_Some, slice_get_within}
+use Rattle.std.proofs.lemmas.Option.{slice_get_within}
 use Rattle.phase_core.specs.declared.envelope.Envelope.{Envelope}
 use Rattle.phase_core.specs.Machine.{start_flight}
 use Rattle.phase_core.specs.Lemmas.Lookups.{get-map, get-map_back, Contains-get, Contains-at, Contains-map, Contains-map_back, Contains-cons_cases}
@@ -19,10 +19,10 @@ use Rattle.block_fields.specs.States.{State}
 use Rattle.ghost_pieces.specs.Pieces.{PieceState, AreOwedPieces, CarriesSamples, filled}
 use Rattle.ghost_pieces.specs.Regions.{Region, IsRegion}
 use Rattle.refresh_phase.specs.declared.refresh_msg.RefreshMsg.{RefreshMsg}
-use Rattle.refresh_phase.specs.declared.refresh_msg.RefreshMsg.TheVariants.{Start, Piece}
-use Rattle.refresh_phase.specs.Cells.{LeafPart, LeafState, RefreshProblem, blank, own_cells, state_in}
-use Rattle.refresh_phase.specs.React.{refresh_start, sent_piece, sent_pieces}
-use Rattle.refresh_phase.specs.Problem.{IsLeafPart, IsRefreshProblem, refresh_plan}
+use Rattle.refresh_phase.specs.declared.refresh_msg.RefreshMsg.TheVariants.{Start}
+use Rattle.refresh_phase.specs.Cells.{LeafPart, RefreshProblem, blank, own_cells, state_in}
+use Rattle.refresh_phase.specs.React.{refresh_start, sent_piece}
+use Rattle.refresh_phase.specs.Problem.{IsRefreshProblem, refresh_plan}
 use Rattle.refresh_phase.specs.States.{IsRightMsg}
 use Rattle.refresh_phase.proofs.GhostFacts.{facts}
 

@@ -1,20 +1,19 @@
 -- What stands when nothing is in flight: all regions are filed, so the shells hold the samples.
-use Rattle.std.proofs.Common.{◌≡◌, ℕ, Bool, true, cond, List, [], ◌∷◌, Some, map, refl, sym, ap, ◌∙◌, subst}
+use Rattle.std.proofs.Common.{◌≡◌, ℕ, Bool, true, cond, List, [], Some, map, sym, ap, ◌∙◌, subst}
 use Rattle.std.specs.Prelude.{Contains, slice_get}
 use Rattle.std.proofs.lemmas.Option.{same_Some}
 use Rattle.phase_core.specs.declared.envelope.Envelope.{Envelope}
-use Rattle.owed_phase.specs.Plans.{inbox, after, all_of}
+use Rattle.owed_phase.specs.Plans.{inbox, all_of}
 use Rattle.owed_phase.specs.Rest.{HasHandled, IsDone}
 use Rattle.owed_phase.specs.Lemmas.Inboxes.{inbox-has}
 use Rattle.owed_phase.specs.Lemmas.OwingLaws.{at_rest_by}
 use Rattle.block_fields.specs.Blocks.{IsBlock}
 use Rattle.block_fields.specs.BlockStates.{HoldsSamples}
 use Rattle.ghost_pieces.specs.Filing.{is_filed}
-use Rattle.ghost_pieces.specs.Pieces.{PieceState, filled}
-use Rattle.ghost_pieces.specs.Regions.{Region, IsRegion}
+use Rattle.ghost_pieces.specs.Pieces.{filled}
+use Rattle.ghost_pieces.specs.Regions.{Region}
 use Rattle.ghost_pieces.specs.Shells.{AreAllFiled}
 use Rattle.refresh_phase.specs.declared.refresh_msg.RefreshMsg.{RefreshMsg}
-use Rattle.refresh_phase.specs.declared.refresh_msg.RefreshMsg.TheVariants.{Start, Piece}
 use Rattle.refresh_phase.specs.Cells.{LeafPart, LeafState, RefreshProblem, blank, own_cells, state_in}
 use Rattle.refresh_phase.specs.React.{sent_piece, sent_pieces}
 use Rattle.refresh_phase.specs.Problem.{IsRefreshProblem, RefreshHolds, refresh_plan}

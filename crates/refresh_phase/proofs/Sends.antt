@@ -1,5 +1,5 @@
 -- Sending the pieces that a cell owes, one after another.
-use Rattle.std.proofs.Common.{◌≡◌, ℕ, ◌+◌, ◌≤◌, List, [], ◌∷◌, ◌++◌, length, refl, sym, ap, ◌∙◌, subst, arith, append_assoc, append-nil}
+use Rattle.std.proofs.Common.{◌≡◌, List, [], ◌∷◌, ◌++◌, sym, ap, ◌∙◌, append_assoc}
 use Rattle.phase_core.specs.declared.envelope.Envelope.{Envelope}
 use Rattle.block_index.specs.Places.{Grid}
 use Rattle.block_fields.specs.Blocks.{BlockState}

@@ -1,12 +1,11 @@
 -- The blocks of a phase at rest.
-use Rattle.std.proofs.Common.{◌≡◌, ℕ, ◌<◌, List, [], Some, length, map, refl, sym, ap, ◌∙◌, subst, arith}
+use Rattle.std.proofs.Common.{◌≡◌, ℕ, List, [], Some, map, sym, ap, ◌∙◌, subst, arith}
 use Rattle.std.specs.Prelude.{slice_get}
 use Rattle.std.proofs.lemmas.List.{length-map}
-use Rattle.std.proofs.lemmas.Option.{same_Some, slice_get_within}
-use Rattle.phase_core.specs.Lemmas.Lookups.{get-map, get-map_back}
+use Rattle.std.proofs.lemmas.Option.{slice_get_within}
+use Rattle.phase_core.specs.Lemmas.Lookups.{get-map_back}
 use Rattle.phase_core.specs.Lemmas.ListsByPlaces.{same_list}
 use Rattle.owed_phase.specs.Lemmas.Moves.{get-some}
-use Rattle.block_index.specs.Places.{Cube}
 use Rattle.block_fields.specs.Blocks.{BlockState}
 use Rattle.block_fields.specs.BlockStates.{AreBlocksOf, HoldsSamples, IsBlockOf}
 use Rattle.refresh_phase.specs.Cells.{LeafPart, LeafState, RefreshProblem, own_cells, state_in}

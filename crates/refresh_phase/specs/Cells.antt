@@ -1,6 +1,6 @@
 -- The cells of the refresh phase: blocks with the pieces that they owe, and with the regions that are filed.
-use Rattle.std.specs.Prelude.{ℕ, Bool, List, [], map, replicate}
-use Rattle.block_index.specs.Places.{Cube, Grid}
+use Rattle.std.specs.Prelude.{ℕ, Bool, List, [], map}
+use Rattle.block_index.specs.Places.{Grid}
 use Rattle.block_fields.specs.Blocks.{BlockState}
 use Rattle.block_fields.specs.BlockStates.{state_of}
 use Rattle.block_fields.specs.States.{State}

@@ -3,3 +3,4 @@
 pub mod RefreshLaws
 pub mod Sending
 pub mod FirstCells
+pub mod Made

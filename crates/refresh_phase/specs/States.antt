@@ -1,5 +1,5 @@
 -- What the invariant of the refresh phase says of each cell, each region and each message.
-use Rattle.std.specs.Prelude.{◌≡◌, ℕ, ◌+◌, ◌<◌, ◌==◌, ◌&&◌, Bool, false, cond, List, Some, All, Contains, length, slice_get, sum_by}
+use Rattle.std.specs.Prelude.{◌≡◌, ℕ, ◌+◌, ◌<◌, ◌==◌, ◌&&◌, false, cond, List, Some, All, Contains, length, slice_get, sum_by}
 use Rattle.phase_core.specs.declared.envelope.Envelope.{Envelope}
 use Rattle.owed_phase.specs.States.{StartsInFlight}
 use Rattle.block_fields.specs.BlockStates.{HoldsSamples}

@@ -1,19 +1,22 @@
 //! A block of the refresh phase.
 
-ghost use Rattle.std.specs.Prelude.{◌≡◌, ℕ, ◌+◌, ◌^◌, ◌≤◌, ◌<◌, ◌⊎◌, ◌++◌, ◌∷◌, [], true, length, sum};
-ghost use Rattle.block_fields.specs.Blocks.{amounts_of};
+ghost use Rattle.std.specs.Prelude.{◌≡◌, ℕ, ◌+◌, ◌^◌, ◌≤◌, ◌<◌, ◌⊎◌, ◌++◌, ◌∷◌, [], true, IfOk, Some, length, slice_get, sum};
+ghost use Rattle.block_fields.specs.Blocks.{IsBlock, amounts_of};
 ghost use Rattle.ghost_pieces.specs.Filing.{after_filing, is_filed, with_filed};
 ghost use Rattle.ghost_pieces.specs.Pieces.{FitsSize};
 ghost use Rattle.ghost_pieces.specs.Regions.{most_regions};
 ghost use Rattle.refresh_phase.specs.Cells.{own_cells};
 ghost use Rattle.refresh_phase.specs.React.{sent_piece, sent_pieces};
+ghost use Rattle.refresh_phase.specs.Lemmas.FirstCells.{IsFirstCell, bare};
 ghost use Rattle.refresh_phase.specs.Lemmas.Sending.{CanFill, CanSend};
 
-use crate::header::Header;
+use crate::header::{Header, headers};
 use crate::refresh_msg::RefreshMsg;
 use block_fields::Block;
 use block_index::Domain;
-use ghost_pieces::{FiledSet, Piece, file, fill_piece};
+use cello_num::Memory;
+use ghost_pieces::{FiledSet, Piece, empty_pieces, file, fill_piece};
+use leaf_set::LeafSet;
 use phase_core::{Envelope, Outbox};
 use std::alloc::Global;
 use std::marker::Model;
@@ -50,6 +53,34 @@ impl RefreshCell {
             owed,
             started: false,
         }
+    }
+
+    /// A cell without the pieces that it owes.
+    pub(crate) fn bare(alloc: Global, block: Block) -> RefreshCell
+        ensures { result ≡ bare block }
+    {
+        RefreshCell::fresh(block, Vec::new(alloc), Vec::new(alloc))
+    }
+
+    /// Gives a bare cell, which is that of the leaf at `at`, the pieces that it owes, with their room. Where memory is
+    /// wanting it stays bare.
+    pub(crate) fn take_pieces(
+        &mut self,
+        alloc: Global,
+        set: &LeafSet,
+        at: u32,
+    ) -> Result<(), Memory>
+        requires bare { self.old ≡ bare self.old.block }
+        requires leaf { slice_get set.now.places at ≡ Some self.old.block.place }
+        requires limits { IsBlock self.old.block }
+        ensures first { IfOk result (λ _. IsFirstCell set.now.grid set.now.places at self.new) }
+        ensures block { IfOk result (λ _. self.new.block ≡ self.old.block) }
+    {
+        let owed = empty_pieces(alloc, &self.block, at, set)?;
+        let owes = headers(alloc, &owed)?;
+        self.owed = owed;
+        self.owes = owes;
+        Ok(())
     }
 
     /// The block.

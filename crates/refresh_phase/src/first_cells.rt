@@ -1,17 +1,13 @@
 //! The cells with which a phase over the blocks of a mesh begins.
 
-ghost use Rattle.std.specs.Prelude.{◌≡◌, ℕ, IfOk, Some, map, slice_get};
+ghost use Rattle.std.specs.Prelude.{◌≡◌, ℕ, IfOk, Some, slice_get};
 ghost use Rattle.block_fields.specs.Blocks.{IsBlock};
 ghost use Rattle.block_fields.specs.BlockStates.{AreBlocksOf};
-ghost use Rattle.ghost_pieces.specs.Pieces.{most_owed};
-ghost use Rattle.refresh_phase.specs.Cells.{header};
 ghost use Rattle.refresh_phase.specs.Lemmas.FirstCells.{AreFirstCells, IsFirstCell};
 
 use crate::cell::RefreshCell;
-use crate::header::Header;
 use block_fields::Block;
 use cello_num::Memory;
-use ghost_pieces::{Piece, empty_pieces};
 use leaf_set::LeafSet;
 use std::alloc::Global;
 
@@ -39,18 +35,7 @@ fn first_cell(alloc: Global, set: &LeafSet, at: u32, block: Block) -> Result<Ref
     ensures first { IfOk result (λ cell. IsFirstCell set.now.grid set.now.places at cell) }
     ensures block { IfOk result (λ cell. cell.block ≡ block) }
 {
-    let owed = empty_pieces(alloc, &block, at, set)?;
-    let owes = headers(alloc, &owed)?;
-    Ok(RefreshCell::fresh(block, owes, owed))
-}
-
-/// The headers of pieces.
-fn headers(alloc: Global, pieces: &[Piece]) -> Result<Vec<Header>, Memory>
-    ensures { IfOk result (λ headers. headers.items ≡ map header pieces.now) }
-{
-    let mut headers = Vec::with_capacity(alloc, pieces.len())?;
-    for piece in pieces {
-        headers.push(Header::of(piece))?;
-    }
-    Ok(headers)
+    let mut cell = RefreshCell::bare(alloc, block);
+    cell.take_pieces(alloc, set, at)?;
+    Ok(cell)
 }

@@ -1,8 +1,13 @@
 //! The names of pieces.
 
+ghost use Rattle.std.specs.Prelude.{◌≡◌, IfOk, map};
+ghost use Rattle.refresh_phase.specs.Cells.{header};
+
 use block_index::Place;
 use cello_neighbours::Direction;
+use cello_num::Memory;
 use ghost_pieces::Piece;
+use std::alloc::Global;
 use std::marker::Model;
 
 /// What a piece is of, without its amounts.
@@ -25,9 +30,6 @@ impl Model for Header {
 }
 
 impl Header {
-    ghost use Rattle.std.specs.Prelude.{◌≡◌};
-    ghost use Rattle.refresh_phase.specs.Cells.{header};
-
     /// The header of a piece.
     pub(crate) fn of(piece: &Piece) -> Header
         ensures { result ≡ header piece.now }
@@ -40,4 +42,15 @@ impl Header {
             direction: piece.direction(),
         }
     }
+}
+
+/// The headers of pieces.
+pub(crate) fn headers(alloc: Global, pieces: &[Piece]) -> Result<Vec<Header>, Memory>
+    ensures { IfOk result (λ headers. headers.items ≡ map header pieces.now) }
+{
+    let mut headers = Vec::with_capacity(alloc, pieces.len())?;
+    for piece in pieces {
+        headers.push(Header::of(piece))?;
+    }
+    Ok(headers)
 }

@@ -9,6 +9,7 @@ mod cell;
 mod first_cells;
 mod header;
 mod laws;
+mod making;
 mod problem;
 mod refresh;
 mod refresh_msg;

@@ -8,6 +8,7 @@ ghost use Rattle.refresh_phase.specs.Problem.{RefreshBegins};
 
 use crate::cell::RefreshCell;
 use crate::first_cells::first_cells;
+use crate::making::cells_in_threads;
 use crate::problem::Problem;
 use crate::refresh_msg::RefreshMsg;
 use block_fields::Block;
@@ -17,6 +18,7 @@ use leaf_set::LeafSet;
 use phase_core::{Outbox, Phase, Quiet};
 use std::alloc::Global;
 use std::marker::Model;
+use std::thread::Threads;
 
 /// The refresh phase over the blocks of a mesh, all of one size.
 #[derive(Drop)]
@@ -125,6 +127,30 @@ impl Refresh {
     {
         let phase = Refresh::over(*set.domain(), &blocks[0]);
         let cells = first_cells(alloc, set, blocks)?;
+        Ok((phase, cells))
+    }
+
+    /// The phase and the cells of `begin`, which are made in at most as many threads as there are workers.
+    pub fn begin_in_threads<R: Threads + Sync>(
+        rt: &R,
+        alloc: Global,
+        workers: u32,
+        set: &LeafSet,
+        blocks: Vec<Block>,
+    ) -> Result<(Refresh, Vec<RefreshCell>), Memory>
+        requires workers { 1 ≤ workers }
+        requires blocks { (n : ℕ) × (fields : ℕ) × (depth : ℕ) × AreBlocksOf set.now.places n fields depth blocks.items }
+        requires few { (i f : ℕ) (b : BlockState) → slice_get blocks.items i ≡ Some b → sum (amounts_of b f) ≤ 2 ^ 42 }
+        ensures grid { IfOk result (λ r. (problem_of r.0 r.1.items).setting.grid ≡ set.now.grid) }
+        ensures blocks { IfOk result (λ r. map (λ k. k.own) (problem_of r.0 r.1.items).parts ≡ map own_cells blocks.items) }
+        ensures sizes { (n fields depth : ℕ) → AreBlocksOf set.now.places n fields depth blocks.items →
+            IfOk result (λ r. r.0 ≡ record { grid = set.now.grid; edge = n; fields = fields; depth = depth }) }
+        ensures state { (n fields depth : ℕ) → AreBlocksOf set.now.places n fields depth blocks.items →
+            IfOk result (λ r. state_in (problem_of r.0 r.1.items) ≡ state_of set.now.grid n fields blocks.items) }
+        ensures begins { IfOk result (λ r. RefreshBegins (problem_of r.0 r.1.items) r.1.items) }
+    {
+        let phase = Refresh::over(*set.domain(), &blocks[0]);
+        let cells = cells_in_threads(rt, alloc, workers, set, blocks)?;
         Ok((phase, cells))
     }
 

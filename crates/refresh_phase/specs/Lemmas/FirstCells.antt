@@ -14,6 +14,10 @@ pub record IsFirstCell (grid : Grid) (mesh : List Cube) (i : ℕ) (c : LeafState
   pub owes : c.owes ≡ map header c.owed
   pub few : length c.owed ≤ most_owed
 
+-- a cell without the pieces that it owes
+abbrev pub bare : BlockState → LeafState
+bare b = record { block = b; owes = []; filed = []; owed = []; started = false }
+
 -- one for each block
 pub record AreFirstCells (grid : Grid) (mesh : List Cube) (blocks : List BlockState) (cells : List LeafState) : Type 0 where
   pub made : map (λ c. c.block) cells ≡ blocks

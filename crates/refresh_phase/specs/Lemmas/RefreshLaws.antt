@@ -9,7 +9,7 @@ use Rattle.owed_phase.specs.Plans.{IsPlan, KeepsPart}
 use Rattle.owed_phase.specs.Lemmas.Moves.{same_moved, moved_same}
 use Rattle.block_index.specs.Places.{Grid}
 use Rattle.block_fields.specs.Blocks.{BlockState}
-use Rattle.ghost_pieces.specs.Filing.{Source, is_filed, after_filing, with_piece, with_filed}
+use Rattle.ghost_pieces.specs.Filing.{Source, is_filed, after_filing, with_piece}
 use Rattle.ghost_pieces.specs.Pieces.{PieceState}
 use Rattle.refresh_phase.specs.declared.refresh_msg.RefreshMsg.{RefreshMsg}
 use Rattle.refresh_phase.specs.declared.refresh_msg.RefreshMsg.TheVariants.{Start, Piece}

@@ -1,5 +1,5 @@
 -- From the laws of the phase, and what stands in each state and at rest.
-use Rattle.std.proofs.Common.{List, [], subst}
+use Rattle.std.proofs.Common.{List, subst}
 use Rattle.phase_core.specs.declared.envelope.Envelope.{Envelope}
 use Rattle.refresh_phase.specs.declared.refresh_msg.RefreshMsg.{RefreshMsg}
 use Rattle.refresh_phase.specs.Problem.{RefreshHolds}

@@ -1,9 +1,9 @@
 -- The blocks of the cells at rest.
-use Rattle.std.proofs.Common.{◌≡◌, ℕ, List, [], Some, map, sym, ap, ◌∙◌, subst}
+use Rattle.std.proofs.Common.{◌≡◌, List, Some, map, sym, ap, ◌∙◌, subst}
 use Rattle.std.specs.Prelude.{slice_get}
 use Rattle.block_fields.specs.Blocks.{BlockState}
-use Rattle.block_fields.specs.BlockStates.{AreBlocksOf, HoldsSamples}
-use Rattle.refresh_phase.specs.Cells.{LeafPart, LeafState, own_cells, state_in}
+use Rattle.block_fields.specs.BlockStates.{AreBlocksOf}
+use Rattle.refresh_phase.specs.Cells.{LeafState, own_cells, state_in}
 use Rattle.refresh_phase.proofs.Settled.{settled-amounts, settled-samples, settled-sizes}
 use Rattle.refresh_phase.proofs.refresh.settled_blocks.Goals as goal
 

@@ -1,5 +1,5 @@
 -- All that was owed is sent, in order.
-use Rattle.std.proofs.Common.{◌≡◌, ℕ, ◌≤◌, ◌++◌, ◌∷◌, List, [], length, refl, sym, ap, ◌∙◌, subst, arith, append-nil}
+use Rattle.std.proofs.Common.{◌≡◌, ◌++◌, ◌∷◌, List, length, sym, ap, ◌∙◌, subst, arith}
 use Rattle.std.specs.Prelude.{Contains}
 use Rattle.std.specs.Vec.Iter.{into_iter_items}
 use Rattle.phase_core.specs.declared.envelope.Envelope.{Envelope}
@@ -8,7 +8,7 @@ use Rattle.ghost_pieces.specs.Pieces.{PieceState}
 use Rattle.refresh_phase.specs.declared.refresh_msg.RefreshMsg.{RefreshMsg}
 use Rattle.refresh_phase.specs.Cells.{LeafState, own_cells}
 use Rattle.refresh_phase.specs.React.{sent_pieces}
-use Rattle.refresh_phase.specs.Lemmas.Sending.{CanFill, CanSend}
+use Rattle.refresh_phase.specs.Lemmas.Sending.{CanFill}
 use Rattle.refresh_phase.proofs.Sends.{one_sent}
 use Rattle.refresh_phase.proofs.cell.RefreshCell.send.Goals as goal
 

@@ -1,10 +1,10 @@
 -- What was sent and what is left are all that the cell owed.
-use Rattle.std.proofs.Common.{◌≡◌, ℕ, ◌≤◌, ◌++◌, List, length}
+use Rattle.std.proofs.Common.{◌≡◌, ◌≤◌, ◌++◌, length}
 use Rattle.std.specs.Prelude.{Contains}
 use Rattle.std.specs.Vec.Iter.{into_iter_items, into_iter_len}
 use Rattle.refresh_phase.specs.Cells.{own_cells}
 use Rattle.refresh_phase.specs.React.{sent_pieces}
-use Rattle.refresh_phase.specs.Lemmas.Sending.{CanFill, CanSend}
+use Rattle.refresh_phase.specs.Lemmas.Sending.{CanFill}
 use Rattle.ghost_pieces.specs.Pieces.{PieceState}
 use Rattle.refresh_phase.proofs.cell.RefreshCell.send.Given as goal
 
