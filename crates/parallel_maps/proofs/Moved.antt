@@ -1,5 +1,5 @@
 -- Blocks that move from list to list one by one, and those that were advanced in several threads.
-use Rattle.std.proofs.Common.{◌≡◌, ℕ, zero, suc, ◌<◌, List, [], ◌∷◌, ◌++◌, Some, All, map, take, drop, length, refl, sym, ap, ◌∙◌, subst, arith}
+use Rattle.std.proofs.Common.{◌≡◌, ℕ, zero, suc, ◌<◌, List, [], ◌∷◌, ◌++◌, Option, Some, map, take, drop, length, refl, sym, ap, ◌∙◌, subst, arith}
 use Rattle.std.specs.Prelude.{slice_get, slice_index_or}
 use Rattle.std.proofs.lemmas.List.{length-map, drop_all, take_all}
 use Rattle.std.proofs.lemmas.Option.{same_Some, slice_get_past, slice_get-get_or}
@@ -9,7 +9,7 @@ use Rattle.params_check.specs.Parameters.{Parameters}
 use Rattle.advect.specs.FaceFluxes.{FaceFluxState}
 use Rattle.flux_register.specs.Made.{AreUpwindAdvanced}
 use Rattle.parallel_maps.specs.declared.moving.Moving.{Moving}
-use Rattle.parallel_maps.specs.Advances.{CanAdvance, IsAdvanced}
+use Rattle.parallel_maps.specs.Advances.{CanAdvance, IsAdvanced, WasAdvanced}
 use Rattle.parallel_maps.proofs.BlockAdvances.{advances-all}
 
 -- a list without elements
@@ -54,17 +54,7 @@ pub written_back : {A : Type 0} (n : ℕ) (old new : List A) → n ≡ length ol
 written_back n old new counted long =
     ap (λ l. take n (new ++ l)) (drop_all (length new) old (omega (arith, long))) ∙ (ap (take n) (nil_behind new) ∙ take_all n new (omega (arith, counted, long)))
 
--- all of a list and one more
-pub one_more : {A : Type 0} (P : A → Type 0) (here made : List A) (x : A) → All P here → made ≡ here ++ x ∷ [] → P x → All P made
-one_more {A} P here made x all pushes one = subst (λ (l : List A). All P l) (sym pushes) (behind here all)
-  where
-    behind : (xs : List A) → All P xs → All P (xs ++ x ∷ [])
-    behind [] h zero d l = one
-    behind [] h (suc k) d l = absurd (omega (arith, l))
-    behind (y ∷ ys) h zero d l = h zero d (omega arith)
-    behind (y ∷ ys) h (suc k) d l = behind ys (λ j e m. h (suc j) e (omega (arith, m))) k d (omega (arith, l))
-
--- blocks that can be advanced, beside their rooms
+-- blocks that can be advanced
 pub can-each : (p : Parameters) (befores : List BlockState) (moving : List Moving) → map (λ (m : Moving). m.block) moving ≡ befores
     → ((i : ℕ) (b : BlockState) → slice_get befores i ≡ Some b → CanAdvance p b) → (k : ℕ) (d : Moving) → k < length moving
     → CanAdvance p (slice_index_or moving k d).block
@@ -75,16 +65,17 @@ can-each p befores moving first can k d below =
 
 -- all blocks that were taken apart again are advanced
 pub all-moved : (p : Parameters) (befores blocks : List BlockState) (faces : List FaceFluxState) (moving moved : List Moving)
-    → map (λ (m : Moving). m.block) moving ≡ befores → blocks ≡ map (λ (m : Moving). m.block) moved → faces ≡ map (λ (m : Moving). m.faces) moved
+    → map (λ (m : Moving). m.block) moving ≡ befores → blocks ≡ map (λ (m : Moving). m.block) moved → map Some faces ≡ map (λ (m : Moving). m.faces) moved
     → length moved ≡ length moving
-    → ((i : ℕ) (m n : Moving) → slice_get moving i ≡ Some m → slice_get moved i ≡ Some n → IsAdvanced p m.block n.block n.faces)
+    → ((i : ℕ) (m n : Moving) → slice_get moving i ≡ Some m → slice_get moved i ≡ Some n → WasAdvanced p m.block n.block n.faces)
     → AreUpwindAdvanced p befores blocks faces
 all-moved p befores blocks faces moving moved first second third long each =
     let block : Moving → BlockState = λ m. m.block in
-    let fluxes : Moving → FaceFluxState = λ m. m.faces in
+    let fluxes : Moving → Option FaceFluxState = λ m. m.faces in
+    let some : FaceFluxState → Option FaceFluxState = Some in
     let count : length befores ≡ length moving = sym (ap length first) ∙ length-map moving block in
     let one_each : length blocks ≡ length befores = ap length second ∙ (length-map moved block ∙ (long ∙ sym count)) in
-    let counted : length faces ≡ length befores = ap length third ∙ (length-map moved fluxes ∙ (long ∙ sym count)) in
+    let counted : length faces ≡ length befores = sym (length-map faces some) ∙ (ap length third ∙ (length-map moved fluxes ∙ (long ∙ sym count))) in
     advances-all p (length befores) befores blocks faces (λ h. omega (arith, h)) (omega arith) (record {
       one_each = one_each;
       counted = counted;
@@ -92,10 +83,10 @@ all-moved p befores blocks faces moving moved first second third long each =
       each = λ i b new q below before now face.
           let m = get-map_back block moving i b (subst (λ (l : List BlockState). slice_get l i ≡ Some b) (sym first) before) in
           let n = get-map_back block moved i new (subst (λ (l : List BlockState). slice_get l i ≡ Some new) second now) in
-          let k = get-map_back fluxes moved i q (subst (λ (l : List FaceFluxState). slice_get l i ≡ Some q) third face) in
+          let k = get-map_back fluxes moved i (Some q) (subst (λ (l : List (Option FaceFluxState)). slice_get l i ≡ Some (Some q)) third (get-map some faces i q face)) in
           let same : n.0 ≡ k.0 = same_Some n.0 k.0 (sym n.1 ∙ k.1) in
-          let of_faces : n.0.faces ≡ q = ap fluxes same ∙ k.2 in
+          let of_faces : n.0.faces ≡ Some q = ap fluxes same ∙ k.2 in
           subst (λ (x : BlockState). IsAdvanced p x new q) m.2
           (subst (λ (x : BlockState). IsAdvanced p m.0.block x q) n.2
-          (subst (λ (x : FaceFluxState). IsAdvanced p m.0.block n.0.block x) of_faces (each i m.0 n.0 m.1 n.1)));
+          (subst (λ (x : Option FaceFluxState). WasAdvanced p m.0.block n.0.block x) of_faces (each i m.0 n.0 m.1 n.1)));
     })

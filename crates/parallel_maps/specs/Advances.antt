@@ -1,5 +1,5 @@
 -- Which blocks can be advanced, and what an advance makes of one.
-use Rattle.std.specs.Prelude.{◌≡◌, ◌^◌, length}
+use Rattle.std.specs.Prelude.{◌≡◌, ◌^◌, IfSome, Option, length}
 use Rattle.block_index.specs.Places.{IsInside}
 use Rattle.block_fields.specs.Blocks.{BlockState, IsBlock}
 use Rattle.params_check.specs.Parameters.{Parameters}
@@ -24,3 +24,7 @@ pub record IsAdvanced (p : Parameters) (b new : BlockState) (q : FaceFluxState) 
   pub edge : q.edge ≡ p.block
   pub fields : q.fields ≡ length p.fields
   pub block : IsBlock new
+
+-- the same, where there are fluxes
+abbrev pub WasAdvanced : Parameters → BlockState → BlockState → Option FaceFluxState → Type 0
+WasAdvanced p b new faces = IfSome faces (λ q. IsAdvanced p b new q)

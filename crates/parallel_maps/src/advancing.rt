@@ -28,7 +28,11 @@ pub fn advance_blocks(
 }
 
 /// Advances a block by its own fluxes, and answers those of its outermost faces.
-fn advance_block(alloc: Global, params: &Params, block: &mut Block) -> Result<FaceFluxes, Memory>
+pub(crate) fn advance_block(
+    alloc: Global,
+    params: &Params,
+    block: &mut Block,
+) -> Result<FaceFluxes, Memory>
     requires can { CanAdvance params.now block.old }
     ensures advanced { IfOk result (λ faces. IsAdvanced params.now block.old block.new faces) }
 {

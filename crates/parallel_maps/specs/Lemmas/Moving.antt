@@ -1,4 +1,4 @@
--- How far blocks are advanced one after another, and what rooms for their fluxes are.
+-- How far blocks are advanced one after another.
 use Rattle.std.specs.Prelude.{◌≡◌, ℕ, ◌<◌, ◌≤◌, List, Some, length, slice_get}
 use Rattle.block_fields.specs.Blocks.{BlockState}
 use Rattle.params_check.specs.Parameters.{Parameters}
@@ -12,8 +12,3 @@ pub record AdvancesUpTo (p : Parameters) (count : ℕ) (befores blocks : List Bl
   pub ahead : (i : ℕ) → count ≤ i → slice_get blocks i ≡ slice_get befores i
   pub each : (i : ℕ) (b new : BlockState) (q : FaceFluxState) → i < count → slice_get befores i ≡ Some b → slice_get blocks i ≡ Some new →
       slice_get faces i ≡ Some q → IsAdvanced p b new q
-
--- a room for fluxes is of the sizes of the parameters
-pub record IsRoom (p : Parameters) (q : FaceFluxState) : Type 0 where
-  pub edge : q.edge ≡ p.block
-  pub fields : q.fields ≡ length p.fields

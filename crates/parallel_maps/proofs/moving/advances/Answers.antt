@@ -1,5 +1,5 @@
 -- The blocks can be advanced, and all of them are.
-use Rattle.std.proofs.Common.{◌≡◌, map, length, ap, ◌∙◌}
+use Rattle.std.proofs.Common.{◌≡◌, Option, map, length, ap, ◌∙◌}
 use Rattle.block_fields.specs.Blocks.{BlockState}
 use Rattle.advect.specs.FaceFluxes.{FaceFluxState}
 use Rattle.parallel_maps.specs.declared.moving.Moving.{Moving}
@@ -17,7 +17,7 @@ returns g c =
     let old = c.in_ok-moving.moving in
     let moved = c.advance_each.new.moving in
     let block : Moving → BlockState = λ m. m.block in
-    let fluxes : Moving → FaceFluxState = λ m. m.faces in
+    let fluxes : Moving → Option FaceFluxState = λ m. m.faces in
     let same = c.as_mut_slice.ensures.value in
     let long : length moved ≡ length old.items = c.advance_each.ensures.one_each ∙ ap length same in
     let back = written_back old.len old.items moved old.ok.0 long in
