@@ -1,5 +1,5 @@
 //! A command that was asked for, by several workers.
-ghost use Rattle.std.specs.Prelude.{◌≡◌, ◌⊎◌, ℕ, ◌≤◌, ◌↔◌, List, None, Ok, Some, IsFalse, IfSome, [], All, IfOk, length, map, slice_get};
+ghost use Rattle.std.specs.Prelude.{◌≡◌, ◌⊎◌, ℕ, ◌^◌, ◌≤◌, ◌↔◌, List, None, Ok, Some, IsFalse, IfSome, [], All, IfOk, length, map, slice_get, sum};
 ghost use Rattle.cello_io.specs.Counts.{Rose};
 ghost use Rattle.cello_io.specs.Files.{PastFiles, SamePast};
 ghost use Rattle.cello_io.specs.Reads.{LostAtMost};
@@ -18,7 +18,8 @@ ghost use Rattle.cello_top.specs.Faults.{IsAnswered, SawText, CameToWrite, statu
 ghost use Rattle.cello_top.specs.Solo.{ReadOut, Answers, AnswersInPart, HoldBytes, IsFileAtFault, IsInput, IsWithoutFile, KeepsPast, read_limit};
 ghost use Rattle.cello_top.specs.Counts.{HandlesWithin};
 ghost use Rattle.cello_top.specs.Lemmas.CommandSteps.{IsOfCommand};
-ghost use Rattle.block_fields.specs.Blocks.{BlockState, seen_at};
+ghost use Rattle.block_fields.specs.Blocks.{BlockState, amounts_of, seen_at};
+ghost use Rattle.block_fields.specs.BlockStates.{AreBlocksOf, state_of};
 ghost use Rattle.params_check.specs.Limits.{KeepsCriterion};
 ghost use Rattle.criteria.specs.Samples.{IsSmall};
 ghost use Rattle.criteria.specs.Wishes.{criteria_wish};
@@ -44,6 +45,7 @@ use cello_io::{Gate, Shelf, Sink, Source};
 use cello_num::Memory;
 use crew::{Workers, adapt_to_rest, bring_to_rest};
 use flux_register::{FluxCell, FluxFix};
+use leaf_set::LeafSet;
 use parallel_maps::{advances, wishes};
 use params_check::{Criterion, Params};
 use phase_core::Quiet;
@@ -147,6 +149,19 @@ pub(crate) fn obey_by_workers<
     ensures shelf_faults { (H.tells shelf.old).write_faults ≤ (H.tells shelf.new).write_faults }
 {
     let crew = Workers {
+        begin: |alloc: Global, set: &LeafSet, blocks: Vec<Block>| -> Result<
+            (Refresh, Vec<RefreshCell>),
+            Memory,
+        >
+            requires workers { (1 ≤ workers) × (workers ≤ 16) }
+            requires blocks { (n : ℕ) × (fields : ℕ) × (depth : ℕ) × AreBlocksOf set.now.places n fields depth blocks.items }
+            requires few { (i f : ℕ) (b : BlockState) → slice_get blocks.items i ≡ Some b → sum (amounts_of b f) ≤ 2 ^ 42 }
+            ensures sizes { (n fields depth : ℕ) → AreBlocksOf set.now.places n fields depth blocks.items →
+                IfOk result (λ r. r.0 ≡ record { grid = set.now.grid; edge = n; fields = fields; depth = depth }) }
+            ensures state { (n fields depth : ℕ) → AreBlocksOf set.now.places n fields depth blocks.items →
+                IfOk result (λ r. refresh_cells.state_in (refresh_cells.problem_of r.0 r.1.items) ≡ state_of set.now.grid n fields blocks.items) }
+            ensures begins { IfOk result (λ r. RefreshBegins (refresh_cells.problem_of r.0 r.1.items) r.1.items) }
+        { Refresh::begin_in_threads(rt, alloc, workers, set, blocks) },
         refresh: |alloc: Global, phase: Refresh, cells: Vec<RefreshCell>| -> Result<
             Quiet<Refresh>,
             Memory,

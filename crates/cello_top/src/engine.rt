@@ -163,7 +163,7 @@ fn do_next<S: Start, C: Crew, K: Sink, H: Shelf>(
     ensures same_rest { K.rest sink.new ≡ K.rest sink.old }
 {
     let _set = run.set();
-    match run.work(alloc) {
+    match run.work(alloc, crew) {
         Ok(work) => do_work(alloc, crew, run, work, sink, shelf),
         Err(fault) => Err(Fault::from(fault)),
     }

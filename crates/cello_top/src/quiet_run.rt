@@ -57,7 +57,7 @@ fn work_quietly<S: Start, C: Crew>(
     ensures few { IfOk result (λ went. IfSome went (λ count. count ≤ many_messages)) }
 {
     let _set = run.set();
-    match run.work(alloc) {
+    match run.work(alloc, crew) {
         Ok(work) => do_quietly(alloc, crew, run, work),
         Err(fault) => Err(fault),
     }

@@ -6,20 +6,34 @@ use block_fields::Block;
 use block_index::Wish;
 use cello_num::Memory;
 use flux_register::{FluxCell, FluxFix};
+use leaf_set::LeafSet;
 use parallel_maps::{advance_blocks, block_wishes};
 use params_check::{Criterion, Params};
 use phase_core::{Quiet, drive};
 use refresh_phase::{Refresh, RefreshCell};
+use run_core::Maker;
 use std::alloc::Global;
 
 /// The crew of one thread: messages are delivered first in, first out, and blocks are taken one after another.
 #[derive(Clone, Copy, Debug, PartialEq, Eq)]
 pub struct Alone;
 
+impl Maker for Alone {
+    ghost ready = { λ _. Unit {0} };
+
+    fn begin_refresh(
+        &self,
+        alloc: Global,
+        set: &LeafSet,
+        blocks: Vec<Block>,
+    ) -> Result<(Refresh, Vec<RefreshCell>), Memory> {
+        let begun = Refresh::begin(alloc, set, blocks)?;
+        Ok(begun)
+    }
+}
+
 impl Crew for Alone {
     ghost use Rattle.crew.specs.Counts.{CountsPlainly};
-
-    ghost ready = { λ _. Unit {0} };
 
     ghost counts = { CountsPlainly };
 

@@ -1,6 +1,7 @@
 //! A crew of workers, as a run makes it, over no blocks.
-ghost use Rattle.std.specs.Prelude.{◌≡◌, ◌≤◌, ℕ, [], All, IfOk, Some, length, map, slice_get};
-ghost use Rattle.block_fields.specs.Blocks.{BlockState, seen_at};
+ghost use Rattle.std.specs.Prelude.{◌≡◌, ◌^◌, ◌≤◌, ℕ, [], All, IfOk, Some, length, map, slice_get, sum};
+ghost use Rattle.block_fields.specs.Blocks.{BlockState, amounts_of, seen_at};
+ghost use Rattle.block_fields.specs.BlockStates.{AreBlocksOf, state_of};
 ghost use Rattle.params_check.specs.Limits.{KeepsCriterion};
 ghost use Rattle.criteria.specs.Samples.{IsSmall};
 ghost use Rattle.criteria.specs.Wishes.{criteria_wish};
@@ -23,6 +24,7 @@ use block_index::Wish;
 use cello_io::{Gate, OpenGate};
 use cello_num::Memory;
 use flux_register::{FluxCell, FluxFix};
+use leaf_set::LeafSet;
 use parallel_maps::{advances, wishes};
 use params_check::{Criterion, Params};
 use phase_core::Quiet;
@@ -51,6 +53,19 @@ fn by_workers<R: Threads + Wait + Sync, G: Gate + Sync>(
     ensures none { IfOk result (λ wishes. wishes.items ≡ []) }
 {
     let crew = Workers {
+        begin: |alloc: Global, set: &LeafSet, blocks: Vec<Block>| -> Result<
+            (Refresh, Vec<RefreshCell>),
+            Memory,
+        >
+            requires workers { (1 ≤ workers) × (workers ≤ 16) }
+            requires blocks { (n : ℕ) × (fields : ℕ) × (depth : ℕ) × AreBlocksOf set.now.places n fields depth blocks.items }
+            requires few { (i f : ℕ) (b : BlockState) → slice_get blocks.items i ≡ Some b → sum (amounts_of b f) ≤ 2 ^ 42 }
+            ensures sizes { (n fields depth : ℕ) → AreBlocksOf set.now.places n fields depth blocks.items →
+                IfOk result (λ r. r.0 ≡ record { grid = set.now.grid; edge = n; fields = fields; depth = depth }) }
+            ensures state { (n fields depth : ℕ) → AreBlocksOf set.now.places n fields depth blocks.items →
+                IfOk result (λ r. refresh_cells.state_in (refresh_cells.problem_of r.0 r.1.items) ≡ state_of set.now.grid n fields blocks.items) }
+            ensures begins { IfOk result (λ r. RefreshBegins (refresh_cells.problem_of r.0 r.1.items) r.1.items) }
+        { Refresh::begin_in_threads(rt, alloc, workers, set, blocks) },
         refresh: |alloc: Global, phase: Refresh, cells: Vec<RefreshCell>| -> Result<
             Quiet<Refresh>,
             Memory,

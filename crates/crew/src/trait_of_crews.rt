@@ -22,13 +22,12 @@ use flux_register::{FluxCell, FluxFix};
 use params_check::{Criterion, Params};
 use phase_core::Quiet;
 use refresh_phase::{Refresh, RefreshCell};
+use run_core::Maker;
 use std::alloc::Global;
 
-/// Who does the works of a run. Each call answers want of memory, or what its clauses say.
-pub trait Crew {
-    // What a crew must keep to be asked at all. One that is made of closures says here what these do.
-    ghost ready: { Self → Type 0 };
-
+/// Who does the works of a run, and makes the cells of its refresh phases. Each call answers want of memory, or what its
+/// clauses say.
+pub trait Crew: Maker {
     // What is known of how many messages an adapt phase handled.
     ghost counts: { AdaptProblem → ℕ → Type 0 };
 
@@ -39,7 +38,7 @@ pub trait Crew {
         phase: Refresh,
         cells: Vec<RefreshCell>,
     ) -> Result<Quiet<Refresh>, Memory>
-        requires ready { ready self.now }
+        requires ready { Self.ready self.now }
         requires begins { RefreshBegins (refresh_cells.problem_of phase cells.items) cells.items }
         ensures problem { IfOk result (λ quiet. quiet.problem ≡ refresh_cells.problem_of phase cells.items) };
 
@@ -50,7 +49,7 @@ pub trait Crew {
         phase: Adapt,
         cells: Vec<AdaptCell>,
     ) -> Result<Quiet<Adapt>, Memory>
-        requires ready { ready self.now }
+        requires ready { Self.ready self.now }
         requires begins { adapt.AdaptBegins (adapt.problem_of phase cells.items) cells.items }
         ensures problem { IfOk result (λ quiet. quiet.problem ≡ adapt.problem_of phase cells.items) }
         ensures counts { IfOk result (λ quiet. counts (adapt.problem_of phase cells.items) quiet.handled) };
@@ -62,7 +61,7 @@ pub trait Crew {
         phase: FluxFix,
         cells: Vec<FluxCell>,
     ) -> Result<Quiet<FluxFix>, Memory>
-        requires ready { ready self.now }
+        requires ready { Self.ready self.now }
         requires begins { FluxFixBegins (flux_cells.problem_of phase cells.items) cells.items }
         ensures problem { IfOk result (λ quiet. quiet.problem ≡ flux_cells.problem_of phase cells.items) };
 
@@ -74,7 +73,7 @@ pub trait Crew {
         phase: u32,
         blocks: &[Block],
     ) -> Result<Vec<Wish>, Memory>
-        requires ready { ready self.now }
+        requires ready { Self.ready self.now }
         requires limits { (i : ℕ) (b : BlockState) → slice_get blocks.now i ≡ Some b → All (KeepsCriterion (length b.amounts)) criteria.now }
         requires small { (i : ℕ) (b : BlockState) → slice_get blocks.now i ≡ Some b → IsSmall b }
         ensures wishes { IfOk result (λ wishes. wishes.items ≡ map (λ b. criteria_wish b.edge phase criteria.now (seen_at b) b.place) blocks.now) };
@@ -87,7 +86,7 @@ pub trait Crew {
         params: &Params,
         blocks: &mut Vec<Block>,
     ) -> Result<Vec<FaceFluxes>, Memory>
-        requires ready { ready self.now }
+        requires ready { Self.ready self.now }
         requires can { (i : ℕ) (b : BlockState) → slice_get blocks.old.items i ≡ Some b → CanAdvance params.now b }
         ensures advanced { IfOk result (λ faces. AreUpwindAdvanced params.now blocks.old.items blocks.new.items faces.items) };
 }

@@ -6,16 +6,19 @@ use block_fields::Block;
 use block_index::Wish;
 use cello_num::Memory;
 use flux_register::{FluxCell, FluxFix};
+use leaf_set::LeafSet;
 use params_check::{Criterion, Params};
 use phase_core::Quiet;
 use refresh_phase::{Refresh, RefreshCell};
+use run_core::Maker;
 use std::alloc::Global;
 
 /// A crew of workers, whose calls are closures. So they can capture a handle that starts threads, and a gate: of those
 /// that a struct holds, the prover doesn't know in an impl of a trait that threads may share them. `ready` says what each
 /// closure asks and answers.
 #[derive(Drop)]
-pub struct Workers<A, B, C, D, E> {
+pub struct Workers<A, B, C, D, E, F> {
+    pub begin: F,
     pub refresh: A,
     pub adapt: B,
     pub correct: C,
@@ -29,9 +32,11 @@ impl<
     C: Fn(Global, FluxFix, Vec<FluxCell>) -> Result<Quiet<FluxFix>, Memory>,
     D: Fn(Global, &[Criterion], u32, &[Block]) -> Result<Vec<Wish>, Memory>,
     E: Fn(Global, &Params, &mut Vec<Block>) -> Result<Vec<FaceFluxes>, Memory>,
-> Crew for Workers<A, B, C, D, E> {
-    ghost use Rattle.std.specs.Prelude.{◌≡◌, ℕ, All, IfOk, Some, length, map, slice_get};
-    ghost use Rattle.block_fields.specs.Blocks.{BlockState, seen_at};
+    F: Fn(Global, &LeafSet, Vec<Block>) -> Result<(Refresh, Vec<RefreshCell>), Memory>,
+> Maker for Workers<A, B, C, D, E, F> {
+    ghost use Rattle.std.specs.Prelude.{◌≡◌, ℕ, ◌^◌, ◌≤◌, All, IfOk, Some, length, map, slice_get, sum};
+    ghost use Rattle.block_fields.specs.Blocks.{BlockState, amounts_of, seen_at};
+    ghost use Rattle.block_fields.specs.BlockStates.{AreBlocksOf, state_of};
     ghost use Rattle.params_check.specs.Limits.{KeepsCriterion};
     ghost use Rattle.criteria.specs.Samples.{IsSmall};
     ghost use Rattle.criteria.specs.Wishes.{criteria_wish};
@@ -58,7 +63,34 @@ impl<
         wishes.items ≡ map (λ b. criteria_wish b.edge p k.now (seen_at b) b.place) bs.now))
         × ((a q bs : _) → ((i : ℕ) (b : BlockState) → slice_get bs.now.items i ≡ Some b → CanAdvance q.now b) → E.pre w.advance a q bs)
         × ((a q bs r after : _) → E.post w.advance a q bs r after → IfOk r (λ faces.
-        AreUpwindAdvanced q.now bs.now.items after.now.items faces.items)) };
+        AreUpwindAdvanced q.now bs.now.items after.now.items faces.items))
+        × ((a s bs : _) → ((n : ℕ) × (fields : ℕ) × (depth : ℕ) × AreBlocksOf s.now.places n fields depth bs.items)
+        → ((i f : ℕ) (b : BlockState) → slice_get bs.items i ≡ Some b → sum (amounts_of b f) ≤ 2 ^ 42) → F.pre w.begin a s bs)
+        × ((a s bs r : _) → F.post w.begin a s bs r → (n fields depth : ℕ) → AreBlocksOf s.now.places n fields depth bs.items →
+        IfOk r (λ r. r.0 ≡ record { grid = s.now.grid; edge = n; fields = fields; depth = depth }))
+        × ((a s bs r : _) → F.post w.begin a s bs r → (n fields depth : ℕ) → AreBlocksOf s.now.places n fields depth bs.items →
+        IfOk r (λ r. refresh_cells.state_in (refresh_cells.problem_of r.0 r.1.items) ≡ state_of s.now.grid n fields bs.items))
+        × ((a s bs r : _) → F.post w.begin a s bs r → IfOk r (λ r. RefreshBegins (refresh_cells.problem_of r.0 r.1.items) r.1.items)) };
+
+    fn begin_refresh(
+        &self,
+        alloc: Global,
+        set: &LeafSet,
+        blocks: Vec<Block>,
+    ) -> Result<(Refresh, Vec<RefreshCell>), Memory> {
+        (self.begin)(alloc, set, blocks)
+    }
+}
+
+impl<
+    A: Fn(Global, Refresh, Vec<RefreshCell>) -> Result<Quiet<Refresh>, Memory>,
+    B: Fn(Global, Adapt, Vec<AdaptCell>) -> Result<Quiet<Adapt>, Memory>,
+    C: Fn(Global, FluxFix, Vec<FluxCell>) -> Result<Quiet<FluxFix>, Memory>,
+    D: Fn(Global, &[Criterion], u32, &[Block]) -> Result<Vec<Wish>, Memory>,
+    E: Fn(Global, &Params, &mut Vec<Block>) -> Result<Vec<FaceFluxes>, Memory>,
+    F: Fn(Global, &LeafSet, Vec<Block>) -> Result<(Refresh, Vec<RefreshCell>), Memory>,
+> Crew for Workers<A, B, C, D, E, F> {
+    ghost use Rattle.crew.specs.Counts.{CountsWithin};
 
     ghost counts = { CountsWithin };
 

@@ -14,6 +14,7 @@ ghost use Rattle.run_core.specs.Works.{
 
 use crate::fault::RunFault;
 use crate::flux::begin_flux;
+use crate::maker::Maker;
 use crate::phase::begin_adapt;
 use crate::refresh::begin_refresh;
 use crate::run::{Run, Start};
@@ -36,10 +37,12 @@ fn is_due(every: u32, cycle: u32) -> bool
 
 impl<S: Start> Run<S> {
     /// Gives the blocks out as the cells of a refresh phase.
-    pub(crate) fn give_refresh(
+    pub(crate) fn give_refresh<M: Maker>(
         &mut self,
         alloc: Global,
+        maker: &M,
     ) -> Result<(Refresh, Vec<RefreshCell>), Memory>
+        requires ready { M.ready maker.now }
         requires next { self.old.stage ≡ Stage.Next }
         requires step { IsRefreshStep self.old.step }
         ensures begun { IfOk result (λ r. IsRefresh self.new r.0 r.1.items) }
@@ -48,7 +51,7 @@ impl<S: Start> Run<S> {
     {
         self.stage = Stage::Failed;
         let blocks = mem::replace(&mut self.blocks, Vec::new(alloc));
-        let begun = begin_refresh(alloc, &self.params, &self.set, blocks)?;
+        let begun = begin_refresh(alloc, maker, &self.params, &self.set, blocks)?;
         self.stage = Stage::Out;
         Ok(begun)
     }

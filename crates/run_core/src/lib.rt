@@ -12,6 +12,7 @@ mod fault;
 mod flux;
 mod giving;
 mod laws;
+mod maker;
 mod phase;
 mod phase_laws;
 mod readers;
@@ -25,6 +26,7 @@ mod work;
 
 pub use fault::RunFault;
 pub use laws::{one_count, one_run, run_exists, what_is_told_stays, whole_runs};
+pub use maker::Maker;
 pub use phase_laws::{every_phase_keeps_a_mesh, totals_stay};
 pub use run::{Run, Start, Whole};
 pub use step::{Stage, Step};

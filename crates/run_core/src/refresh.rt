@@ -6,6 +6,7 @@ ghost use Rattle.refresh_phase.specs.Problem.{RefreshBegins};
 ghost use Rattle.run_core.specs.Runs.{AreBlocksFor, blocks_state};
 ghost use Rattle.run_core.specs.Works.{HoldAround, setting_of};
 
+use crate::maker::Maker;
 use block_fields::Block;
 use cello_num::Memory;
 use leaf_set::LeafSet;
@@ -14,13 +15,15 @@ use phase_core::Quiet;
 use refresh_phase::{Refresh, RefreshCell, settled_blocks};
 use std::alloc::Global;
 
-/// The refresh phase over these blocks, and its cells.
-pub(crate) fn begin_refresh(
+/// The refresh phase over these blocks, and its cells, which the maker makes.
+pub(crate) fn begin_refresh<M: Maker>(
     alloc: Global,
+    maker: &M,
     params: &Params,
     set: &LeafSet,
     blocks: Vec<Block>,
 ) -> Result<(Refresh, Vec<RefreshCell>), Memory>
+    requires ready { M.ready maker.now }
     requires grid { set.now.grid ≡ params.now.grid }
     requires blocks { AreBlocksFor params.now set.now.places blocks.items }
     requires few { (f : ℕ) → f < length params.now.fields → total (blocks_state params.now blocks.items) f ≤ 2 ^ 40 }
@@ -28,7 +31,7 @@ pub(crate) fn begin_refresh(
     ensures state { IfOk result (λ r. state_in (problem_of r.0 r.1.items) ≡ blocks_state params.now blocks.items) }
     ensures begins { IfOk result (λ r. RefreshBegins (problem_of r.0 r.1.items) r.1.items) }
 {
-    let begun = Refresh::begin(alloc, set, blocks)?;
+    let begun = maker.begin_refresh(alloc, set, blocks)?;
     Ok(begun)
 }
 

@@ -11,6 +11,7 @@ ghost use Rattle.run_core.specs.Works.{IsCounted, IsTold, IsWork, LimitEnds, Sta
 ghost use Rattle.run_core.specs.Lemmas.Bounds.{most_works};
 
 use crate::fault::RunFault;
+use crate::maker::Maker;
 use crate::room::keep_freed_memory;
 use crate::step::{Stage, Step, after_cycle_told, after_round};
 use crate::totals::initial_totals;
@@ -111,7 +112,7 @@ impl Run<Whole> {
 
 impl<S: Start> Run<S> {
     /// The run that goes on after a cycle up to cycle `until`, from blocks that hold its state, which is where the run
-    /// starts, and with the ledger that is restored of it. It takes no memory.
+    /// starts, and with the ledger that is restored of it. It takes no memory but a room that it lets go.
     pub fn resume(
         alloc: Global,
         params: Params,
@@ -140,6 +141,7 @@ impl<S: Start> Run<S> {
         ensures counted { IsCounted result 0 }
         ensures few { works_left result ≤ most_works }
     {
+        keep_freed_memory(alloc);
         let ended = params.rounds() + cycle;
         let all = (params.rounds() + until).saturating_sub(ended);
         Run {
@@ -158,8 +160,10 @@ impl<S: Start> Run<S> {
         }
     }
 
-    /// The next work. The run waits until it comes back; at the end there is none to be done.
-    pub fn work(&mut self, alloc: Global) -> Result<Work, RunFault>
+    /// The next work. The cells of a refresh phase are made by `maker`. The run waits until the work comes back; at the
+    /// end there is none to be done.
+    pub fn work<M: Maker>(&mut self, alloc: Global, maker: &M) -> Result<Work, RunFault>
+        requires ready { M.ready maker.now }
         requires next { self.old.stage ≡ Stage.Next }
         ensures work { IfOk result (λ work. IsWork self.new work) }
         ensures out { IfOk result (λ _. self.new ≡ record self.old { stage = stage_out self.old.step }) }
@@ -170,7 +174,7 @@ impl<S: Start> Run<S> {
     {
         match self.step {
             Step::Refresh | Step::RefreshAgain => {
-                let (phase, cells) = self.give_refresh(alloc)?;
+                let (phase, cells) = self.give_refresh(alloc, maker)?;
                 Ok(Work::Refresh(phase, cells))
             }
             Step::Wishes => Ok(Work::Wishes(self.give_wishes(alloc))),

@@ -1,0 +1,35 @@
+//! The trait of those who make a run's cells.
+ghost use Rattle.std.specs.Prelude.{◌≡◌, ℕ, ◌^◌, ◌≤◌, IfOk, Some, slice_get, sum};
+ghost use Rattle.block_fields.specs.Blocks.{BlockState, amounts_of};
+ghost use Rattle.block_fields.specs.BlockStates.{AreBlocksOf, state_of};
+ghost use Rattle.refresh_phase.specs.Cells.{problem_of, state_in};
+ghost use Rattle.refresh_phase.specs.Problem.{RefreshBegins};
+
+use block_fields::Block;
+use cello_num::Memory;
+use leaf_set::LeafSet;
+use refresh_phase::{Refresh, RefreshCell};
+use std::alloc::Global;
+
+/// Who makes the cells with which the refresh phases of a run begin: one thread or several, with one contract for both.
+pub trait Maker {
+    // What a maker must keep to be asked at all. One that is made of closures says here what these do.
+    ghost ready: { Self → Type 0 };
+
+    /// The refresh phase over the blocks of a leaf set, which are all of one size, and its cells in the order of the
+    /// leaves, with the room of all pieces.
+    fn begin_refresh(
+        &self,
+        alloc: Global,
+        set: &LeafSet,
+        blocks: Vec<Block>,
+    ) -> Result<(Refresh, Vec<RefreshCell>), Memory>
+        requires ready { ready self.now }
+        requires blocks { (n : ℕ) × (fields : ℕ) × (depth : ℕ) × AreBlocksOf set.now.places n fields depth blocks.items }
+        requires few { (i f : ℕ) (b : BlockState) → slice_get blocks.items i ≡ Some b → sum (amounts_of b f) ≤ 2 ^ 42 }
+        ensures sizes { (n fields depth : ℕ) → AreBlocksOf set.now.places n fields depth blocks.items →
+            IfOk result (λ r. r.0 ≡ record { grid = set.now.grid; edge = n; fields = fields; depth = depth }) }
+        ensures state { (n fields depth : ℕ) → AreBlocksOf set.now.places n fields depth blocks.items →
+            IfOk result (λ r. state_in (problem_of r.0 r.1.items) ≡ state_of set.now.grid n fields blocks.items) }
+        ensures begins { IfOk result (λ r. RefreshBegins (problem_of r.0 r.1.items) r.1.items) };
+}
