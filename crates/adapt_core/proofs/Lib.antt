@@ -4,3 +4,4 @@ pub mod EveryRun
 pub mod PartsOfLeaves
 pub mod OneProblem
 pub mod FirstProblems
+pub mod MadeCells

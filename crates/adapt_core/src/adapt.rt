@@ -1,12 +1,13 @@
 //! The adapt phase as a phase over messages: its beginning, its handling, and the levels at its end.
 
-ghost use Rattle.std.specs.Prelude.{◌≡◌, IfOk, length};
+ghost use Rattle.std.specs.Prelude.{◌≡◌, ◌≤◌, IfOk, length};
 ghost use Rattle.leaf_set.specs.LevelRules.{IsLeast};
 ghost use Rattle.adapt_core.specs.Problem.{mesh_of, wishes_of, problem_of, AdaptBegins};
 
 use crate::adapt_msg::AdaptMsg;
 use crate::cell::AdaptCell;
 use crate::first_cells::first_cells;
+use crate::making::cells_in_threads;
 use crate::problem::Problem;
 use block_index::{Domain, Wish};
 use cello_num::Memory;
@@ -14,6 +15,7 @@ use leaf_set::LeafSet;
 use phase_core::{Outbox, Phase, Quiet};
 use std::alloc::Global;
 use std::marker::Model;
+use std::thread::Threads;
 
 /// The adapt phase over a domain.
 #[derive(Drop)]
@@ -119,6 +121,26 @@ impl Adapt {
         ensures begins { IfOk result (λ r. AdaptBegins (problem_of r.0 r.1.items) r.1.items) }
     {
         let cells = first_cells(alloc, set, wishes)?;
+        let domain = *set.domain();
+        Ok((Adapt { domain }, cells))
+    }
+
+    /// The phase and the cells of `begin`, which are made in at most as many threads as there are workers.
+    pub fn begin_in_threads<R: Threads + Sync>(
+        rt: &R,
+        alloc: Global,
+        workers: u32,
+        set: &LeafSet,
+        wishes: &[Wish],
+    ) -> Result<(Adapt, Vec<AdaptCell>), Memory>
+        requires workers { 1 ≤ workers }
+        requires one_each { length wishes.now ≡ length set.now.places }
+        ensures grid { IfOk result (λ r. (problem_of r.0 r.1.items).grid ≡ set.now.grid) }
+        ensures places { IfOk result (λ r. mesh_of (problem_of r.0 r.1.items) ≡ set.now.places) }
+        ensures wishes { IfOk result (λ r. wishes_of (problem_of r.0 r.1.items) ≡ wishes.now) }
+        ensures begins { IfOk result (λ r. AdaptBegins (problem_of r.0 r.1.items) r.1.items) }
+    {
+        let cells = cells_in_threads(rt, alloc, workers, set, wishes)?;
         let domain = *set.domain();
         Ok((Adapt { domain }, cells))
     }

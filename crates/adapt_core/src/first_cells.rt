@@ -35,7 +35,7 @@ pub(crate) fn first_cells(
 }
 
 /// The cell of the leaf at position `at` before anything is handled.
-fn first_cell(
+pub(crate) fn first_cell(
     alloc: Global,
     set: &LeafSet,
     wishes: &[Wish],

@@ -10,6 +10,7 @@ mod adapt_msg;
 mod cell;
 mod first_cells;
 mod laws;
+mod making;
 mod problem;
 mod problem_laws;
 mod siblings;
