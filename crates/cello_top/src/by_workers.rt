@@ -149,7 +149,7 @@ pub(crate) fn obey_by_workers<
     ensures shelf_faults { (H.tells shelf.old).write_faults ≤ (H.tells shelf.new).write_faults }
 {
     let crew = Workers {
-        begin: |alloc: Global, set: &LeafSet, blocks: Vec<Block>| -> Result<
+        begin_refresh: |alloc: Global, set: &LeafSet, blocks: Vec<Block>| -> Result<
             (Refresh, Vec<RefreshCell>),
             Memory,
         >
@@ -162,6 +162,17 @@ pub(crate) fn obey_by_workers<
                 IfOk result (λ r. refresh_cells.state_in (refresh_cells.problem_of r.0 r.1.items) ≡ state_of set.now.grid n fields blocks.items) }
             ensures begins { IfOk result (λ r. RefreshBegins (refresh_cells.problem_of r.0 r.1.items) r.1.items) }
         { Refresh::begin_in_threads(rt, alloc, workers, set, blocks) },
+        begin_adapt: |alloc: Global, set: &LeafSet, wishes: &[Wish]| -> Result<
+            (Adapt, Vec<AdaptCell>),
+            Memory,
+        >
+            requires workers { (1 ≤ workers) × (workers ≤ 16) }
+            requires one_each { length wishes.now ≡ length set.now.places }
+            ensures grid { IfOk result (λ r. (adapt_problem.problem_of r.0 r.1.items).grid ≡ set.now.grid) }
+            ensures places { IfOk result (λ r. adapt_problem.mesh_of (adapt_problem.problem_of r.0 r.1.items) ≡ set.now.places) }
+            ensures wishes { IfOk result (λ r. adapt_problem.wishes_of (adapt_problem.problem_of r.0 r.1.items) ≡ wishes.now) }
+            ensures begins { IfOk result (λ r. adapt_problem.AdaptBegins (adapt_problem.problem_of r.0 r.1.items) r.1.items) }
+        { Adapt::begin_in_threads(rt, alloc, workers, set, wishes) },
         refresh: |alloc: Global, phase: Refresh, cells: Vec<RefreshCell>| -> Result<
             Quiet<Refresh>,
             Memory,

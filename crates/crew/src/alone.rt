@@ -30,6 +30,16 @@ impl Maker for Alone {
         let begun = Refresh::begin(alloc, set, blocks)?;
         Ok(begun)
     }
+
+    fn begin_adapt(
+        &self,
+        alloc: Global,
+        set: &LeafSet,
+        wishes: &[Wish],
+    ) -> Result<(Adapt, Vec<AdaptCell>), Memory> {
+        let begun = Adapt::begin(alloc, set, wishes)?;
+        Ok(begun)
+    }
 }
 
 impl Crew for Alone {

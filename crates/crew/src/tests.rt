@@ -53,7 +53,7 @@ fn by_workers<R: Threads + Wait + Sync, G: Gate + Sync>(
     ensures none { IfOk result (λ wishes. wishes.items ≡ []) }
 {
     let crew = Workers {
-        begin: |alloc: Global, set: &LeafSet, blocks: Vec<Block>| -> Result<
+        begin_refresh: |alloc: Global, set: &LeafSet, blocks: Vec<Block>| -> Result<
             (Refresh, Vec<RefreshCell>),
             Memory,
         >
@@ -66,6 +66,17 @@ fn by_workers<R: Threads + Wait + Sync, G: Gate + Sync>(
                 IfOk result (λ r. refresh_cells.state_in (refresh_cells.problem_of r.0 r.1.items) ≡ state_of set.now.grid n fields blocks.items) }
             ensures begins { IfOk result (λ r. RefreshBegins (refresh_cells.problem_of r.0 r.1.items) r.1.items) }
         { Refresh::begin_in_threads(rt, alloc, workers, set, blocks) },
+        begin_adapt: |alloc: Global, set: &LeafSet, wishes: &[Wish]| -> Result<
+            (Adapt, Vec<AdaptCell>),
+            Memory,
+        >
+            requires workers { (1 ≤ workers) × (workers ≤ 16) }
+            requires one_each { length wishes.now ≡ length set.now.places }
+            ensures grid { IfOk result (λ r. (adapt_problem.problem_of r.0 r.1.items).grid ≡ set.now.grid) }
+            ensures places { IfOk result (λ r. adapt_problem.mesh_of (adapt_problem.problem_of r.0 r.1.items) ≡ set.now.places) }
+            ensures wishes { IfOk result (λ r. adapt_problem.wishes_of (adapt_problem.problem_of r.0 r.1.items) ≡ wishes.now) }
+            ensures begins { IfOk result (λ r. adapt_problem.AdaptBegins (adapt_problem.problem_of r.0 r.1.items) r.1.items) }
+        { Adapt::begin_in_threads(rt, alloc, workers, set, wishes) },
         refresh: |alloc: Global, phase: Refresh, cells: Vec<RefreshCell>| -> Result<
             Quiet<Refresh>,
             Memory,

@@ -17,8 +17,9 @@ use std::alloc::Global;
 /// that a struct holds, the prover doesn't know in an impl of a trait that threads may share them. `ready` says what each
 /// closure asks and answers.
 #[derive(Drop)]
-pub struct Workers<A, B, C, D, E, F> {
-    pub begin: F,
+pub struct Workers<A, B, C, D, E, F, G> {
+    pub begin_refresh: F,
+    pub begin_adapt: G,
     pub refresh: A,
     pub adapt: B,
     pub correct: C,
@@ -33,7 +34,8 @@ impl<
     D: Fn(Global, &[Criterion], u32, &[Block]) -> Result<Vec<Wish>, Memory>,
     E: Fn(Global, &Params, &mut Vec<Block>) -> Result<Vec<FaceFluxes>, Memory>,
     F: Fn(Global, &LeafSet, Vec<Block>) -> Result<(Refresh, Vec<RefreshCell>), Memory>,
-> Maker for Workers<A, B, C, D, E, F> {
+    G: Fn(Global, &LeafSet, &[Wish]) -> Result<(Adapt, Vec<AdaptCell>), Memory>,
+> Maker for Workers<A, B, C, D, E, F, G> {
     ghost use Rattle.std.specs.Prelude.{◌≡◌, ℕ, ◌^◌, ◌≤◌, All, IfOk, Some, length, map, slice_get, sum};
     ghost use Rattle.block_fields.specs.Blocks.{BlockState, amounts_of, seen_at};
     ghost use Rattle.block_fields.specs.BlockStates.{AreBlocksOf, state_of};
@@ -65,12 +67,17 @@ impl<
         × ((a q bs r after : _) → E.post w.advance a q bs r after → IfOk r (λ faces.
         AreUpwindAdvanced q.now bs.now.items after.now.items faces.items))
         × ((a s bs : _) → ((n : ℕ) × (fields : ℕ) × (depth : ℕ) × AreBlocksOf s.now.places n fields depth bs.items)
-        → ((i f : ℕ) (b : BlockState) → slice_get bs.items i ≡ Some b → sum (amounts_of b f) ≤ 2 ^ 42) → F.pre w.begin a s bs)
-        × ((a s bs r : _) → F.post w.begin a s bs r → (n fields depth : ℕ) → AreBlocksOf s.now.places n fields depth bs.items →
+        → ((i f : ℕ) (b : BlockState) → slice_get bs.items i ≡ Some b → sum (amounts_of b f) ≤ 2 ^ 42) → F.pre w.begin_refresh a s bs)
+        × ((a s bs r : _) → F.post w.begin_refresh a s bs r → (n fields depth : ℕ) → AreBlocksOf s.now.places n fields depth bs.items →
         IfOk r (λ r. r.0 ≡ record { grid = s.now.grid; edge = n; fields = fields; depth = depth }))
-        × ((a s bs r : _) → F.post w.begin a s bs r → (n fields depth : ℕ) → AreBlocksOf s.now.places n fields depth bs.items →
+        × ((a s bs r : _) → F.post w.begin_refresh a s bs r → (n fields depth : ℕ) → AreBlocksOf s.now.places n fields depth bs.items →
         IfOk r (λ r. refresh_cells.state_in (refresh_cells.problem_of r.0 r.1.items) ≡ state_of s.now.grid n fields bs.items))
-        × ((a s bs r : _) → F.post w.begin a s bs r → IfOk r (λ r. RefreshBegins (refresh_cells.problem_of r.0 r.1.items) r.1.items)) };
+        × ((a s bs r : _) → F.post w.begin_refresh a s bs r → IfOk r (λ r. RefreshBegins (refresh_cells.problem_of r.0 r.1.items) r.1.items))
+        × ((a s ws : _) → length ws.now ≡ length s.now.places → G.pre w.begin_adapt a s ws)
+        × ((a s ws r : _) → G.post w.begin_adapt a s ws r → IfOk r (λ r. ((adapt_problem.problem_of r.0 r.1.items).grid ≡ s.now.grid)
+        × (adapt_problem.mesh_of (adapt_problem.problem_of r.0 r.1.items) ≡ s.now.places)
+        × (adapt_problem.wishes_of (adapt_problem.problem_of r.0 r.1.items) ≡ ws.now)
+        × adapt_problem.AdaptBegins (adapt_problem.problem_of r.0 r.1.items) r.1.items)) };
 
     fn begin_refresh(
         &self,
@@ -78,7 +85,17 @@ impl<
         set: &LeafSet,
         blocks: Vec<Block>,
     ) -> Result<(Refresh, Vec<RefreshCell>), Memory> {
-        (self.begin)(alloc, set, blocks)
+        (self.begin_refresh)(alloc, set, blocks)
+    }
+
+    fn begin_adapt(
+        &self,
+        alloc: Global,
+        set: &LeafSet,
+        wishes: &[Wish],
+    ) -> Result<(Adapt, Vec<AdaptCell>), Memory> {
+        let begun = (self.begin_adapt)(alloc, set, wishes)?;
+        Ok(begun)
     }
 }
 
@@ -89,7 +106,8 @@ impl<
     D: Fn(Global, &[Criterion], u32, &[Block]) -> Result<Vec<Wish>, Memory>,
     E: Fn(Global, &Params, &mut Vec<Block>) -> Result<Vec<FaceFluxes>, Memory>,
     F: Fn(Global, &LeafSet, Vec<Block>) -> Result<(Refresh, Vec<RefreshCell>), Memory>,
-> Crew for Workers<A, B, C, D, E, F> {
+    G: Fn(Global, &LeafSet, &[Wish]) -> Result<(Adapt, Vec<AdaptCell>), Memory>,
+> Crew for Workers<A, B, C, D, E, F, G> {
     ghost use Rattle.crew.specs.Counts.{CountsWithin};
 
     ghost counts = { CountsWithin };

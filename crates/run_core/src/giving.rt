@@ -68,7 +68,12 @@ impl<S: Start> Run<S> {
     }
 
     /// Gives the next adapt phase out, unless a leaf wishes past the level limit.
-    pub(crate) fn give_adapt(&mut self, alloc: Global) -> Result<(Adapt, Vec<AdaptCell>), RunFault>
+    pub(crate) fn give_adapt<M: Maker>(
+        &mut self,
+        alloc: Global,
+        maker: &M,
+    ) -> Result<(Adapt, Vec<AdaptCell>), RunFault>
+        requires ready { M.ready maker.now }
         requires next { self.old.stage ≡ Stage.Next }
         requires step { self.old.step ≡ Step.Adapt }
         ensures begun { IfOk result (λ r. IsAdapt self.new r.0 r.1.items) }
@@ -78,6 +83,7 @@ impl<S: Start> Run<S> {
     {
         match begin_adapt(
             alloc,
+            maker,
             &self.params,
             self.ended + self.phase + 1,
             &self.set,

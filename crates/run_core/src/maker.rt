@@ -1,17 +1,20 @@
 //! The trait of those who make a run's cells.
-ghost use Rattle.std.specs.Prelude.{◌≡◌, ℕ, ◌^◌, ◌≤◌, IfOk, Some, slice_get, sum};
+ghost use Rattle.std.specs.Prelude.{◌≡◌, ℕ, ◌^◌, ◌≤◌, IfOk, Some, length, slice_get, sum};
 ghost use Rattle.block_fields.specs.Blocks.{BlockState, amounts_of};
 ghost use Rattle.block_fields.specs.BlockStates.{AreBlocksOf, state_of};
+ghost use Rattle.adapt_core.specs.Problem as adapt;
 ghost use Rattle.refresh_phase.specs.Cells.{problem_of, state_in};
 ghost use Rattle.refresh_phase.specs.Problem.{RefreshBegins};
 
+use adapt_core::{Adapt, AdaptCell};
 use block_fields::Block;
+use block_index::Wish;
 use cello_num::Memory;
 use leaf_set::LeafSet;
 use refresh_phase::{Refresh, RefreshCell};
 use std::alloc::Global;
 
-/// Who makes the cells with which the refresh phases of a run begin: one thread or several, with one contract for both.
+/// Who makes the cells with which phases of a run begin: one thread or several, with one contract for both.
 pub trait Maker {
     // What a maker must keep to be asked at all. One that is made of closures says here what these do.
     ghost ready: { Self → Type 0 };
@@ -32,4 +35,18 @@ pub trait Maker {
         ensures state { (n fields depth : ℕ) → AreBlocksOf set.now.places n fields depth blocks.items →
             IfOk result (λ r. state_in (problem_of r.0 r.1.items) ≡ state_of set.now.grid n fields blocks.items) }
         ensures begins { IfOk result (λ r. RefreshBegins (problem_of r.0 r.1.items) r.1.items) };
+
+    /// The adapt phase over a leaf set, with a wish for each leaf, and its cells in the order of the leaves.
+    fn begin_adapt(
+        &self,
+        alloc: Global,
+        set: &LeafSet,
+        wishes: &[Wish],
+    ) -> Result<(Adapt, Vec<AdaptCell>), Memory>
+        requires ready { ready self.now }
+        requires one_each { length wishes.now ≡ length set.now.places }
+        ensures grid { IfOk result (λ r. (adapt.problem_of r.0 r.1.items).grid ≡ set.now.grid) }
+        ensures places { IfOk result (λ r. adapt.mesh_of (adapt.problem_of r.0 r.1.items) ≡ set.now.places) }
+        ensures wishes { IfOk result (λ r. adapt.wishes_of (adapt.problem_of r.0 r.1.items) ≡ wishes.now) }
+        ensures begins { IfOk result (λ r. adapt.AdaptBegins (adapt.problem_of r.0 r.1.items) r.1.items) };
 }

@@ -8,6 +8,7 @@ ghost use Rattle.run_core.specs.Lemmas.Decisions.{LeadsTo};
 ghost use Rattle.run_core.specs.Runs.{Adapts, AreBlocksFor, KeepsLevelLimit, PassesLimit, blocks_state, phase_wishes};
 
 use crate::fault::RunFault;
+use crate::maker::Maker;
 use adapt_core::{Adapt, AdaptCell, levels};
 use block_fields::Block;
 use block_index::{Place, Wish};
@@ -55,14 +56,17 @@ fn level_limit(params: &Params, phase: u32, set: &LeafSet, wishes: &[Wish]) -> O
     None
 }
 
-/// The adapt phase over a set with these wishes, and its cells, unless a leaf wishes past the level limit.
-pub(crate) fn begin_adapt(
+/// The adapt phase over a set with these wishes, and its cells, which the maker makes, unless a leaf wishes past the level
+/// limit.
+pub(crate) fn begin_adapt<M: Maker>(
     alloc: Global,
+    maker: &M,
     params: &Params,
     phase: u32,
     set: &LeafSet,
     wishes: &[Wish],
 ) -> Result<(Adapt, Vec<AdaptCell>), RunFault>
+    requires ready { M.ready maker.now }
     requires one_each { length wishes.now ≡ length set.now.places }
     ensures level_limit { IfOk result (λ _. KeepsLevelLimit params.now set.now.places wishes.now) }
     ensures grid { IfOk result (λ r. (problem_of r.0 r.1.items).grid ≡ set.now.grid) }
@@ -74,7 +78,7 @@ pub(crate) fn begin_adapt(
     if let Some(limit) = level_limit(params, phase, set, wishes) {
         return Err(limit);
     }
-    match Adapt::begin(alloc, set, wishes) {
+    match maker.begin_adapt(alloc, set, wishes) {
         Ok(begun) => Ok(begun),
         Err(_) => Err(RunFault::Memory),
     }

@@ -160,7 +160,7 @@ impl<S: Start> Run<S> {
         }
     }
 
-    /// The next work. The cells of a refresh phase are made by `maker`. The run waits until the work comes back; at the
+    /// The next work. The cells of refreshes and adapt phases are made by `maker`. The run waits until the work comes back; at the
     /// end there is none to be done.
     pub fn work<M: Maker>(&mut self, alloc: Global, maker: &M) -> Result<Work, RunFault>
         requires ready { M.ready maker.now }
@@ -179,7 +179,7 @@ impl<S: Start> Run<S> {
             }
             Step::Wishes => Ok(Work::Wishes(self.give_wishes(alloc))),
             Step::Adapt => {
-                let (phase, cells) = self.give_adapt(alloc)?;
+                let (phase, cells) = self.give_adapt(alloc, maker)?;
                 Ok(Work::Adapt(phase, cells))
             }
             Step::Advance => Ok(Work::Advance(self.give_advance(alloc))),

@@ -9,15 +9,13 @@ use Rattle.run_core.proofs.GivenWorks.{DuringAdapt-given, IsAdapt-given, limit-s
 use Rattle.run_core.proofs.Keeping.{keeps-with, kept-next, seen-step}
 use Rattle.run_core.proofs.run.Run.give_adapt.Goals as goal
 
-pub begin_adapt-requires : goal.begin_adapt-requires
-begin_adapt-requires g c =
+pub begin_adapt-requires-clause-one_each : goal.begin_adapt-requires-clause-one_each
+begin_adapt-requires-clause-one_each g c =
     let run = c.self.inside in
     let at = course_of run.params run.ended run.last g.S.Start.start in
     let kept = kept-next at run.set run.ledger run.phase (record { blocks = run.blocks.items; wishes = run.wishes.items; faces = run.faces.items }) run.step run.stage c.args.self.now c.self.view_is Adapt c.requires.next c.requires.step c.self.invariant in
-    record {
-      one_each = wishes-one_each at run.phase run.set.places run.blocks.items c.deref.result.now kept.holds
-          (subst (λ (ws : List Wish). AreWishes at run.phase ws) (sym c.deref.ensures.value) kept.asked);
-    }
+    wishes-one_each at run.phase run.set.places run.blocks.items c.deref.result.now kept.holds
+    (subst (λ (ws : List Wish). AreWishes at run.phase ws) (sym c.deref.ensures.value) kept.asked)
 
 pub returns-in-Err-clause-limit : goal.returns-in-Err-clause-limit
 returns-in-Err-clause-limit g c =
