@@ -22,16 +22,6 @@ row_filled g at count j before mid after plane long row earlier = record { long 
               earlier (at + v * count + i) (omega arith) ∙ plane.cells i v hi (omega arith)
         ]
 
--- a plane that is one cell wide
-pub column_filled : (g : ℕ → ℕ → ℕ) (at count rows : ℕ) (before after : List ℕ) → count ≡ 1 → length after ≡ length before → ((j : ℕ) → j < rows → slice_index after (at + j) ≡ g 0 j) → ((i : ℕ) → i < at → slice_index after i ≡ slice_index before i) → FillsPlane g at count rows before after
-column_filled g at count rows before after one long column earlier = record { long = long; cells = cells; earlier = earlier }
-  where
-    cells : (i j : ℕ) → i < count → j < rows → slice_index after (at + j * count + i) ≡ g i j
-    cells i j hi hj =
-        let ei : i ≡ 0 = omega arith in
-        let place : at + j * count + i ≡ at + j * 1 + 0 = λ t. at + j * one t + ei t in
-        ap (slice_index after) (place ∙ (let e : at + j * 1 + 0 ≡ at + j = omega arith in e)) ∙ column j hj ∙ (λ t. g (sym ei t) j)
-
 pub plane_filled : (g : ℕ → ℕ → ℕ → ℕ) (count rows k : ℕ) (before mid after : List ℕ) → FillsPlanes g count rows k before mid → FillsPlane (λ i j. g i j k) (k * rows * count) count rows mid after → FillsPlanes g count rows (k + 1) before after
 plane_filled g count rows k before mid after planes plane = record { long = plane.long ∙ planes.long; cells = cells }
   where

@@ -27,10 +27,10 @@ module _ (n l m : ℕ) (q : List ℕ) (o : Local) where
   abbrev Finer : ℕ
   Finer = sum_by (λ e. slice_index q (number_from n e)) (children_of (cell_from l o))
 
-  pub sent-same : l ≡ m → sent n l m q o ≡ Same
+  sent-same : l ≡ m → sent n l m q o ≡ Same
   sent-same e = cond-true (l == m) Same (cond (nat_lt m l) Coarser Finer) (eq-eqb l m e)
 
-  pub sent-coarser : m < l → sent n l m q o ≡ Coarser
+  sent-coarser : m < l → sent n l m q o ≡ Coarser
   sent-coarser h =
       cond-false (l == m) Same (cond (nat_lt m l) Coarser Finer) (ne_eqb l m (λ e. omega arith))
       ∙ cond-true (nat_lt m l) Coarser Finer (lt-ltb m l h)

@@ -7,12 +7,11 @@ ghost use Rattle.ghost_pieces.specs.Lemmas.Parts.{FitsIn, box_amounts, further};
 
 use crate::axis_parts::Part;
 use crate::copied_boxes::copy_box;
-use crate::filled_columns::fill_column;
 use crate::filled_rows::{fill_row, offset_at};
 use crate::parts::Parts;
 
-/// Fills the plane at `z` in the sender's block row by row.
-fn fill_rows(
+/// Fills the plane at `z` in the sender's block.
+fn fill_plane(
     q: &[u64],
     n: usize,
     level: u8,
@@ -51,41 +50,6 @@ fn fill_rows(
             out,
             at + j * x.count,
         );
-    }
-}
-
-/// Fills the plane at `z` in the sender's block.
-fn fill_plane(
-    q: &[u64],
-    n: usize,
-    level: u8,
-    from: u8,
-    x: Part,
-    y: Part,
-    z: usize,
-    out: &mut [u64],
-    at: usize,
-)
-    requires least { 4 ≤ n }
-    requires most { n ≤ 16 }
-    requires even { n % 2 ≡ 0 }
-    requires all { length q.now ≡ n * n * n }
-    requires small { (i : ℕ) → slice_index q.now i ≤ 2 ^ 42 }
-    requires near { level ≤ from + 1 }
-    requires far { from ≤ level + 1 }
-    requires some_x { 0 < x.count }
-    requires some_y { 0 < y.count }
-    requires x { FitsIn (span n level from) x.start x.runs x.count }
-    requires y { FitsIn (span n level from) y.start y.runs y.count }
-    requires z { z < span n level from }
-    requires at { at ≤ 262144 }
-    requires room { (j : ℕ) → j < y.count → at + j * x.count + x.count ≤ length out.old }
-    ensures plane { FillsPlane (λ i j. sent n level from q.now (record { x = further x.start x.runs i; y = further y.start y.runs j; z = z })) at x.count y.count out.old out.new }
-{
-    if x.count == 1 {
-        fill_column(q, n, level, from, x.start, y, z, out, at);
-    } else {
-        fill_rows(q, n, level, from, x, y, z, out, at);
     }
 }
 

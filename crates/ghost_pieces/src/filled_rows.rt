@@ -57,7 +57,7 @@ fn part_cells(q: &[u64], first: usize, number: u8, x: Part, out: &mut [u64], at:
 }
 
 /// The sum of the eight cells of which the first has a number.
-pub(crate) fn eight_from(q: &[u64], n: usize, at: usize) -> u64
+fn eight_from(q: &[u64], n: usize, at: usize) -> u64
     requires n { n ≤ 16 }
     requires within { at + n * n + n + 1 < length q.now }
     requires limit { length q.now ≤ 4096 }

@@ -12,7 +12,6 @@ mod counts;
 mod filed_set;
 mod filing;
 mod filled_boxes;
-mod filled_columns;
 mod filled_rows;
 mod filling;
 mod laws;

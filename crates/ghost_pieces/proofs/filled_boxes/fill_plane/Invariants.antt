@@ -1,7 +1,7 @@
 use Rattle.ghost_pieces.specs.Sent.{sent}
 use Rattle.ghost_pieces.specs.Lemmas.Fills.{FillsPlane}
 use Rattle.ghost_pieces.specs.Lemmas.Parts.{further}
-use Rattle.ghost_pieces.proofs.filled_boxes.fill_rows.Given as goal
+use Rattle.ghost_pieces.proofs.filled_boxes.fill_plane.Given as goal
 
 abbrev pub invariant-loop-j : goal.invariant-loop-j
 invariant-loop-j l =
