@@ -1,7 +1,7 @@
 -- Slots that all have a first cell.
-use Rattle.std.proofs.Common.{◌≡◌, ℕ, ◌++◌, List, Option, Some, length, map, take, drop, append-nil, sym, ap, ◌∙◌, subst, arith}
+use Rattle.std.proofs.Common.{◌≡◌, ℕ, List, Option, Some, length, map, sym, ap, ◌∙◌, subst}
 use Rattle.std.specs.Prelude.{slice_get, IfSome}
-use Rattle.std.proofs.lemmas.List.{length-map, drop_all, take_all}
+use Rattle.std.proofs.lemmas.List.{length-map}
 use Rattle.phase_core.specs.Lemmas.ListsByPlaces.{Has}
 use Rattle.phase_core.specs.Lemmas.Lookups.{get-map}
 
@@ -14,8 +14,3 @@ Has-taken {A} P count slots cells long each taken =
       many = sym (length-map cells some) ∙ (ap length taken ∙ long);
       each = λ i x at. each i (Some x) (subst (λ (l : List (Option A)). slice_get l i ≡ Some (Some x)) taken (get-map some cells i x at));
     }
-
--- what a list is after all of it was written to
-pub written_back : {A : Type 0} (n : ℕ) (old new : List A) → n ≡ length old → length new ≡ length old → take n (new ++ drop (length new) old) ≡ new
-written_back n old new counted long =
-    ap (λ l. take n (new ++ l)) (drop_all (length new) old (omega (arith, long))) ∙ (ap (take n) (append-nil new) ∙ take_all n new (omega (arith, counted, long)))

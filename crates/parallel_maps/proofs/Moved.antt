@@ -1,7 +1,7 @@
 -- Blocks that move from list to list one by one, and those that were advanced in several threads.
-use Rattle.std.proofs.Common.{◌≡◌, ℕ, zero, suc, ◌<◌, List, [], ◌∷◌, ◌++◌, Option, Some, map, take, drop, length, refl, sym, ap, ◌∙◌, subst, arith}
+use Rattle.std.proofs.Common.{◌≡◌, ℕ, zero, suc, ◌<◌, List, [], ◌∷◌, ◌++◌, Option, Some, map, length, refl, sym, ap, ◌∙◌, subst, arith}
 use Rattle.std.specs.Prelude.{slice_get, slice_index_or}
-use Rattle.std.proofs.lemmas.List.{length-map, drop_all, take_all}
+use Rattle.std.proofs.lemmas.List.{length-map}
 use Rattle.std.proofs.lemmas.Option.{same_Some, slice_get_past, slice_get-get_or}
 use Rattle.phase_core.specs.Lemmas.Lookups.{get-map, get-map_back}
 use Rattle.block_fields.specs.Blocks.{BlockState}
@@ -48,11 +48,6 @@ joined all here rest walks none = sym (nil_behind here) ∙ (ap (λ l. here ++ l
 
 pub left : {A B : Type 0} (f : A → B) (all here : List B) (rest : List A) → here ++ map f rest ≡ all → rest ≡ [] → here ≡ all
 left f all here rest walks none = joined all here (map f rest) walks (ap (map f) none)
-
--- what a list is after all of it was written to
-pub written_back : {A : Type 0} (n : ℕ) (old new : List A) → n ≡ length old → length new ≡ length old → take n (new ++ drop (length new) old) ≡ new
-written_back n old new counted long =
-    ap (λ l. take n (new ++ l)) (drop_all (length new) old (omega (arith, long))) ∙ (ap (take n) (nil_behind new) ∙ take_all n new (omega (arith, counted, long)))
 
 -- blocks that can be advanced
 pub can-each : (p : Parameters) (befores : List BlockState) (moving : List Moving) → map (λ (m : Moving). m.block) moving ≡ befores

@@ -51,13 +51,21 @@ impl<M> Outbox<M> {
         self.sent.push_reserved(envelope);
     }
 
+    /// Takes other envelopes in the place of those sent so far, which it gives in return. Both lists keep their room.
+    pub fn swap(&mut self, other: &mut Vec<Envelope<M>>)
+        ensures items { self.new.items ≡ other.old.items }
+        ensures other { other.new.items ≡ self.old.items }
+    {
+        std::mem::swap(&mut self.sent, other);
+    }
+
     /// Takes other envelopes in the place of those sent so far, which it gives in return, the last one first.
     pub(crate) fn swap_reversed(&mut self, other: &mut Vec<Envelope<M>>)
         ensures items { self.new.items ≡ other.old.items }
         ensures other { other.new.items ≡ reverse self.old.items }
     {
         self.sent.as_mut_slice().reverse();
-        std::mem::swap(&mut self.sent, other);
+        self.swap(other);
     }
 
     /// The envelopes, first sent first.

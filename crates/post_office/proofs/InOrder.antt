@@ -1,10 +1,10 @@
 -- Envelopes handled in order, as turns of a shard's cells.
-use Rattle.std.proofs.Common.{◌≡◌, ℕ, zero, suc, ◌+◌, ◌<◌, ◌≤◌, List, [], ◌∷◌, ◌++◌, length, reverse, take, drop, get_or, Some, refl, sym, ◌∙◌, ap, subst, arith, append-nil, append_assoc, length-append}
+use Rattle.std.proofs.Common.{◌≡◌, ℕ, zero, suc, ◌+◌, ◌<◌, ◌≤◌, List, [], ◌∷◌, ◌++◌, length, take, drop, get_or, Some, refl, sym, ◌∙◌, ap, subst, arith, append-nil, append_assoc, length-append}
 use Rattle.std.specs.Prelude.{All, slice_get, slice_set, IsPermutation}
 use Rattle.std.proofs.Math.Seq.{take-suc}
-use Rattle.std.proofs.lemmas.List.{take-append-drop, drop-append-le, length-reverse}
+use Rattle.std.proofs.lemmas.List.{take-append-drop, drop-append-le}
 use Rattle.std.proofs.lemmas.List.Elements.{All-head, All-tail}
-use Rattle.std.proofs.lemmas.List.Sorted.{IsPermutation-trans, IsPermutation-refl, IsPermutation-reverse, IsPermutation-append_right}
+use Rattle.std.proofs.lemmas.List.Sorted.{IsPermutation-trans, IsPermutation-refl}
 use Rattle.phase_core.specs.declared.envelope.Envelope.{Envelope}
 use Rattle.phase_core.specs.Machine.{Reaction}
 use Rattle.quiet_table.specs.Contents.{pool}
@@ -116,11 +116,11 @@ module _ {P Q C M : Type 0} (react : Q → ℕ → C → M → Reaction C M) (ow
       subst (λ n. Turns react owners shard st0 es0 (sent0 + sent) n st2 es2) b
       (t.0, t.1, t.2, t.3 + sent, t.4, t.5, t.6, all, turns_join (after react owners shard st0 t.0 t.2) (t.1 ++ out) t.3 h0 st1 es1 t.8 es perm sent h st2 es2 u)
 
-  -- those that waited first were handled, and what they sent is fresh, the last first
+  -- those that waited first were handled, and what they sent is fresh
   pub serves_more : (st0 : Stood P Q C) (es0 : List (Envelope M)) (sent h : ℕ) (st1 : Stood P Q C) (es1 : List (Envelope M)) → Turns react owners shard st0 es0 sent h st1 es1
       → (mail1 : List (List (Envelope M))) (fresh1 : List (Envelope M)) → IsPermutation es1 (pool mail1 ++ fresh1) → fresh1 ≡ []
       → (count : ℕ) (mail2 : List (List (Envelope M))) (cells2 : List C) (out : List (Envelope M)) → HandledFirst (react st1.problem) owners shard count mail1 mail2 st1.cells cells2 out
-      → (st2 : Stood P Q C) → st2 ≡ record st1 { cells = cells2 } → (fresh2 : List (Envelope M)) → fresh2 ≡ reverse out
+      → (st2 : Stood P Q C) → st2 ≡ record st1 { cells = cells2 } → (fresh2 : List (Envelope M)) → fresh2 ≡ out
       → Turns react owners shard st0 es0 (sent + length fresh2) (h + count) st2 (pool mail2 ++ fresh2)
   serves_more st0 es0 sent h st1 es1 t mail1 fresh1 perm none count mail2 cells2 out f st2 is fresh2 fresh_is =
       let es = f.es in
@@ -128,10 +128,9 @@ module _ {P Q C M : Type 0} (react : Q → ℕ → C → M → Reaction C M) (ow
       let start : IsPermutation es1 (es ++ left) = IsPermutation-trans _ _ _ (subst (IsPermutation es1) (ap (λ l. pool mail1 ++ l) none ∙ append-nil (pool mail1)) perm) (pool_part mail1 shard es f.rest f.first) in
       let one : Turns react owners shard st1 (es ++ left) (length out) (length es) (record st1 { cells = cells2 }) (left ++ out) = in_order_turns st1 es cells2 out f.handled left in
       let all : Turns react owners shard st0 es0 (sent + length out) (h + length es) (record st1 { cells = cells2 }) (left ++ out) = turns_join st0 es0 sent h st1 es1 t (es ++ left) start (length out) (length es) (record st1 { cells = cells2 }) (left ++ out) one in
-      let turned : IsPermutation (left ++ out) (left ++ reverse out) = IsPermutation-append_right left out (reverse out) (IsPermutation-reverse out) in
-      let same : left ++ reverse out ≡ pool mail2 ++ fresh2 = λ i. pool ((sym f.left) i) ++ (sym fresh_is) i in
-      let now : Turns react owners shard st0 es0 (sent + length out) (h + length es) (record st1 { cells = cells2 }) (pool mail2 ++ fresh2) = turns_end react owners shard st0 es0 (sent + length out) (h + length es) (record st1 { cells = cells2 }) (left ++ out) (pool mail2 ++ fresh2) (subst (IsPermutation (left ++ out)) same turned) all in
-      let counted : length out ≡ length fresh2 = sym (ap length fresh_is ∙ length-reverse out) in
+      let same : left ++ out ≡ pool mail2 ++ fresh2 = λ i. pool ((sym f.left) i) ++ (sym fresh_is) i in
+      let now : Turns react owners shard st0 es0 (sent + length out) (h + length es) (record st1 { cells = cells2 }) (pool mail2 ++ fresh2) = turns_end react owners shard st0 es0 (sent + length out) (h + length es) (record st1 { cells = cells2 }) (left ++ out) (pool mail2 ++ fresh2) (subst (IsPermutation (left ++ out)) same (IsPermutation-refl (left ++ out))) all in
+      let counted : length out ≡ length fresh2 = sym (ap length fresh_is) in
       subst (λ z. Turns react owners shard st0 es0 (sent + length fresh2) (h + count) z (pool mail2 ++ fresh2)) (sym is)
       (subst (λ n. Turns react owners shard st0 es0 (sent + length fresh2) (h + n) (record st1 { cells = cells2 }) (pool mail2 ++ fresh2)) (sym f.counts)
       (subst (λ n. Turns react owners shard st0 es0 (sent + n) (h + length es) (record st1 { cells = cells2 }) (pool mail2 ++ fresh2)) counted now))

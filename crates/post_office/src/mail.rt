@@ -7,6 +7,7 @@ use crate::pile::Pile;
 use phase_core::Envelope;
 
 // Puts an envelope behind those of a pile, or gives it back where memory is wanting.
+#[inline(always)]
 pub(crate) fn put<M: Drop>(
     mail: &mut Vec<Pile<M>>,
     shard: usize,
@@ -20,7 +21,7 @@ pub(crate) fn put<M: Drop>(
     pile.push(envelope)
 }
 
-/// Puts all that was sent, of which the last comes first, onto the piles, as far as memory lasts, and says whether it did.
+/// Puts all that was sent onto the piles, from the back, as far as memory lasts, and says whether it did.
 pub(crate) fn sort_out<M: Drop>(
     owners: &[u8],
     fresh: &mut Vec<Envelope<M>>,

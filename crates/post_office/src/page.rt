@@ -47,6 +47,7 @@ impl<M> Page<M> {
     }
 
     /// Puts an envelope behind the others, or gives it back where the page is full.
+    #[inline(always)]
     pub(crate) fn push(&mut self, envelope: Envelope<M>) -> Option<Envelope<M>>
         ensures done { IfNone result (self.new ≡ self.old ++ envelope ∷ []) }
         ensures back { IfSome result (λ e. (e ≡ envelope) × (self.new ≡ self.old)) }

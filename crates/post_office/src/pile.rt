@@ -32,6 +32,7 @@ impl<M> Model for Pile<M> {
 }
 
 // Puts an envelope onto the last page, or gives it back where there is none with room.
+#[inline(always)]
 fn push_last<M>(pages: &mut LinkedList<Page<M>>, envelope: Envelope<M>) -> Option<Envelope<M>>
     ensures done { IfNone result ((before : _) × (p : _) × (pages.old ≡ before ++ p ∷ []) × (pages.new ≡ before ++ (p ++ envelope ∷ []) ∷ [])) }
     ensures back { IfSome result (λ e. (e ≡ envelope) × (pages.new ≡ pages.old)) }
@@ -134,6 +135,7 @@ impl<M: Drop> Pile<M> {
     }
 
     /// Puts an envelope behind the others, or gives it back where memory is wanting.
+    #[inline(always)]
     pub(crate) fn push(&mut self, envelope: Envelope<M>) -> Option<Envelope<M>>
         ensures done { IfNone result (self.new ≡ self.old ++ envelope ∷ []) }
         ensures back { IfSome result (λ e. (e ≡ envelope) × (self.new ≡ self.old)) }

@@ -1,5 +1,5 @@
 //! Handling what waits at a shard.
-ghost use Rattle.std.specs.Prelude.{◌≡◌, ◌<◌, ◌≤◌, ◌++◌, ◌∷◌, [], ℕ, All, OnOk, OnErr, Some, drop, length, reverse, slice_get, slice_set, take, true};
+ghost use Rattle.std.specs.Prelude.{◌≡◌, ◌<◌, ◌≤◌, ◌++◌, ◌∷◌, [], ℕ, All, OnOk, OnErr, Some, drop, length, slice_get, slice_set, take, true};
 ghost use Rattle.quiet_table.specs.Contents.{pool};
 ghost use Rattle.post_office.specs.Shares.{IsFor, Ranked, Sorted, rank};
 ghost use Rattle.post_office.specs.Posts.{Standing, Turns, after, stood};
@@ -30,6 +30,7 @@ struct Round {
 
 // Handles one envelope at its cell. What it sends goes behind what was sent. The first cells are for the proof of the
 // call alone.
+#[inline(always)]
 fn handle_one<P: Phase>(
     alloc: Global,
     phase: &P,
@@ -144,15 +145,6 @@ fn handle_round<P: Phase>(
     round
 }
 
-// What was sent, the last first.
-fn reversed<M>(out: Outbox<M>) -> Vec<Envelope<M>>
-    ensures { result.items ≡ reverse out.items }
-{
-    let mut sent = out.into_items();
-    sent.reverse();
-    sent
-}
-
 // Handles what waits, in order, and what that sends to cells of the shard itself, until nothing waits or memory is
 // wanting.
 fn serve_all<P: Phase>(
@@ -165,7 +157,9 @@ fn serve_all<P: Phase>(
     cells: &mut Vec<P::Cell>,
     mail: &mut Vec<Pile<P::Msg>>,
     fresh: &mut Vec<Envelope<P::Msg>>,
+    out: &mut Outbox<P::Msg>,
 ) -> Tally
+    requires none_sent { out.old.items ≡ [] }
     requires within { (shard < length mail.old.items) × All (λ o. o < length mail.old.items) owners.now }
     requires addressed { All (λ e. e.to < length owners.now) fresh.old.items }
     requires sorted { Sorted owners.now mail.old.items }
@@ -180,11 +174,8 @@ fn serve_all<P: Phase>(
     let mut handled: u64 = 0;
     let mut sent: u64 = 0;
     while sort_out(owners, fresh, mail) {
-        let mut out = Outbox::new(alloc);
-        let round = handle_round(
-            alloc, phase, first, owners, ranks, shard, cells, mail, &mut out,
-        );
-        *fresh = reversed(out);
+        let round = handle_round(alloc, phase, first, owners, ranks, shard, cells, mail, out);
+        out.swap(fresh);
         handled += round.handled as u64;
         sent += fresh.len() as u64;
         if !round.lasted {
@@ -229,8 +220,9 @@ pub(crate) fn serve<P: Phase>(
         mut mail,
         mut fresh,
     } = served;
+    let mut out = Outbox::new(alloc);
     let tally = serve_all(
-        alloc, phase, &first, owners, ranks, shard, &mut cells, &mut mail, &mut fresh,
+        alloc, phase, &first, owners, ranks, shard, &mut cells, &mut mail, &mut fresh, &mut out,
     );
     let served = PostCell {
         phase: known,

@@ -12,6 +12,9 @@ use std::alloc::Global;
 use std::sync::Wait;
 use std::thread::yield_now;
 
+// How many shards lie between those that two workers one after the other visit first.
+const STRIDE: u64 = 4;
+
 // Whether a visit handled nothing.
 fn is_vain(visit: Visit) -> bool {
     match visit {
@@ -93,7 +96,7 @@ impl<P: Phase> Post<P> {
         let mut turn: u64 = 0;
         for _ in rt.forever() {
             gate.pass(worker, turn);
-            let s = (worker as u64 % shards + turn % shards) % shards;
+            let s = (STRIDE * worker as u64 % shards + turn % shards) % shards;
             let ends_round = turn % shards == shards - 1;
             if self.work_once(alloc, &mut seat, s as u32, ends_round) {
                 return seat;

@@ -1,7 +1,7 @@
 -- Bare cells, and cells that have their pieces.
-use Rattle.std.proofs.Common.{◌≡◌, ℕ, ◌++◌, take, drop, append-nil, true, false, List, Some, length, map, refl, sym, ap, ◌∙◌, subst, arith}
+use Rattle.std.proofs.Common.{◌≡◌, ℕ, true, false, List, Some, length, map, refl, sym, ap, ◌∙◌, subst, arith}
 use Rattle.std.specs.Prelude.{slice_get}
-use Rattle.std.proofs.lemmas.List.{length-map, drop_all, take_all}
+use Rattle.std.proofs.lemmas.List.{length-map}
 use Rattle.std.proofs.lemmas.Option.{slice_get_within}
 use Rattle.phase_core.specs.Lemmas.Lookups.{get-map, get-map_back}
 use Rattle.phase_core.specs.Lemmas.ListsByPlaces.{same_map}
@@ -15,11 +15,6 @@ use Rattle.refresh_phase.specs.Lemmas.FirstCells.{IsFirstCell, AreFirstCells, ba
 use Rattle.refresh_phase.specs.Lemmas.Made.{IsMade}
 use Rattle.refresh_phase.specs.declared.making.Making.{Making}
 use Rattle.refresh_phase.proofs.Beginning.{block_place}
-
--- what a list is after all of it was written to
-pub written_back : {A : Type 0} (n : ℕ) (old new : List A) → n ≡ length old → length new ≡ length old → take n (new ++ drop (length new) old) ≡ new
-written_back n old new counted long =
-    ap (λ l. take n (new ++ l)) (drop_all (length new) old (omega (arith, long))) ∙ (ap (take n) (append-nil new) ∙ take_all n new (omega (arith, counted, long)))
 
 abbrev pub bare_of : BlockState → Making
 bare_of b = record { cell = bare b; made = false }

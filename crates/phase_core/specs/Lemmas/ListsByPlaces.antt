@@ -1,7 +1,7 @@
 -- Lists told by what stands at each place.
-use Rattle.std.proofs.Common.{◌≡◌, ℕ, zero, suc, ◌+◌, ◌<◌, List, [], ◌∷◌, ◌++◌, Some, map, length, refl, sym, ap, ◌∙◌, subst, arith, ◌⊎◌, inl, inr, length-append}
+use Rattle.std.proofs.Common.{◌≡◌, ℕ, zero, suc, ◌+◌, ◌<◌, List, [], ◌∷◌, ◌++◌, Some, map, take, drop, length, append-nil, refl, sym, ap, ◌∙◌, subst, arith, ◌⊎◌, inl, inr, length-append}
 use Rattle.std.specs.Prelude.{slice_get}
-use Rattle.std.proofs.lemmas.List.{length-map}
+use Rattle.std.proofs.lemmas.List.{length-map, drop_all, take_all}
 use Rattle.std.proofs.lemmas.Option.{same_Some, none-some}
 use Rattle.phase_core.specs.Lemmas.Lookups.{get-map_back}
 
@@ -59,3 +59,8 @@ pub same_map : {A B : Type 0} (f : A → B) (xs : List A) (ys : List B) → leng
 same_map {A} {B} f xs ys long each = same_list (map f xs) ys (length-map xs f ∙ long) (λ i y z here there.
     let x = get-map_back f xs i y here in
     sym x.2 ∙ same_Some (f x.0) z (sym (each i x.0 x.1) ∙ there))
+
+-- what a list is after all of it was written to
+pub written_back : {A : Type 0} (n : ℕ) (old new : List A) → n ≡ length old → length new ≡ length old → take n (new ++ drop (length new) old) ≡ new
+written_back n old new counted long =
+    ap (λ l. take n (new ++ l)) (drop_all (length new) old (omega (arith, long))) ∙ (ap (take n) (append-nil new) ∙ take_all n new (omega (arith, counted, long)))

@@ -1,9 +1,10 @@
 -- A first cell for each leaf.
 use Rattle.std.proofs.Common.{◌≡◌, ℕ, List, Option, Some, length, map, sym, ap, ◌∙◌, subst}
 use Rattle.std.specs.Prelude.{slice_get, IfSome}
+use Rattle.phase_core.specs.Lemmas.ListsByPlaces.{written_back}
 use Rattle.adapt_core.specs.Cells.{LeafState}
 use Rattle.adapt_core.specs.Lemmas.FirstCells.{IsFirstCell}
-use Rattle.adapt_core.proofs.MadeCells.{Has-taken, written_back}
+use Rattle.adapt_core.proofs.MadeCells.{Has-taken}
 use Rattle.adapt_core.proofs.making.cells_in_threads.Goals as goal
 
 pub returns : goal.returns

@@ -1,9 +1,10 @@
 -- The blocks can be advanced, and all of them are.
 use Rattle.std.proofs.Common.{◌≡◌, Option, map, length, ap, ◌∙◌}
+use Rattle.phase_core.specs.Lemmas.ListsByPlaces.{written_back}
 use Rattle.block_fields.specs.Blocks.{BlockState}
 use Rattle.advect.specs.FaceFluxes.{FaceFluxState}
 use Rattle.parallel_maps.specs.declared.moving.Moving.{Moving}
-use Rattle.parallel_maps.proofs.Moved.{all-moved, can-each, written_back}
+use Rattle.parallel_maps.proofs.Moved.{all-moved, can-each}
 use Rattle.parallel_maps.proofs.moving.advances.Goals as goal
 
 pub advance_each-requires-clause-can : goal.advance_each-requires-clause-can

@@ -44,11 +44,11 @@ overflow_add-handled g c =
     let round = c.handle_round-round in
     let f = round.ensures.handled in
     let mail2 = round.new.mail.items in
-    let fresh2 = c.reversed.result.items in
+    let fresh2 = c.swap.new.other.items in
     let st2 = stood ph.problem c.args.phase.now c.args.first.now.value.items round.new.cells.items in
     let sent2 = c.loop-alloc.sent + length fresh2 in
     let handled2 = c.loop-alloc.handled + round.result.handled in
-    let next : Turns ph.react owners s st0 es0 sent2 handled2 st2 (pool mail2 ++ fresh2) = (serves_more ph.react owners s st0 es0 c.loop-alloc.sent c.loop-alloc.handled st1 es1 t mail1 fresh1 sorted none round.result.handled mail2 round.new.cells.items round.new.out.items f st2 refl fresh2 c.reversed.ensures) in
+    let next : Turns ph.react owners s st0 es0 sent2 handled2 st2 (pool mail2 ++ fresh2) = (serves_more ph.react owners s st0 es0 c.loop-alloc.sent c.loop-alloc.handled st1 es1 t mail1 fresh1 sorted none round.result.handled mail2 round.new.cells.items round.new.out.items f st2 refl fresh2 c.swap.ensures.other) in
     let few = few_after ph.problem ph.holds ph.weight ph.start_weight ph.react (record { keeps = law.keeps; lowers = law.lowers; same = law.same_problem; order = law.holds_in_any_order; same_weight = law.weighs_in_any_order; addressed = law.addressed; small = law.start_weight_fits }) owners s st0 es0 sent2 handled2 st2 (pool mail2 ++ fresh2) c.requires.stands next in
     omega (arith, few.0)
 
@@ -70,12 +70,12 @@ overflow_add-sent g c =
     let round = c.handle_round-round in
     let f = round.ensures.handled in
     let mail2 = round.new.mail.items in
-    let fresh2 = c.reversed.result.items in
+    let fresh2 = c.swap.new.other.items in
     let st2 = stood ph.problem c.args.phase.now c.args.first.now.value.items round.new.cells.items in
-    let counted : length fresh2 ≡ c.len.result = omega (arith, c.len.ensures, c.reversed.result.ok.0) in
+    let counted : length fresh2 ≡ c.len.result = omega (arith, c.len.ensures, c.swap.new.other.ok.0) in
     let sent2 = c.loop-alloc.sent + c.len.result in
     let handled2 = c.loop-alloc.handled + round.result.handled in
-    let next : Turns ph.react owners s st0 es0 sent2 handled2 st2 (pool mail2 ++ fresh2) = subst (λ n. Turns ph.react owners s st0 es0 (c.loop-alloc.sent + n) handled2 st2 (pool mail2 ++ fresh2)) counted (serves_more ph.react owners s st0 es0 c.loop-alloc.sent c.loop-alloc.handled st1 es1 t mail1 fresh1 sorted none round.result.handled mail2 round.new.cells.items round.new.out.items f st2 refl fresh2 c.reversed.ensures) in
+    let next : Turns ph.react owners s st0 es0 sent2 handled2 st2 (pool mail2 ++ fresh2) = subst (λ n. Turns ph.react owners s st0 es0 (c.loop-alloc.sent + n) handled2 st2 (pool mail2 ++ fresh2)) counted (serves_more ph.react owners s st0 es0 c.loop-alloc.sent c.loop-alloc.handled st1 es1 t mail1 fresh1 sorted none round.result.handled mail2 round.new.cells.items round.new.out.items f st2 refl fresh2 c.swap.ensures.other) in
     let few = few_after ph.problem ph.holds ph.weight ph.start_weight ph.react (record { keeps = law.keeps; lowers = law.lowers; same = law.same_problem; order = law.holds_in_any_order; same_weight = law.weighs_in_any_order; addressed = law.addressed; small = law.start_weight_fits }) owners s st0 es0 sent2 handled2 st2 (pool mail2 ++ fresh2) c.requires.stands next in
     omega (arith, few.2)
 
@@ -97,12 +97,12 @@ loop-alloc-smaller g c =
     let round = c.handle_round-round in
     let f = round.ensures.handled in
     let mail2 = round.new.mail.items in
-    let fresh2 = c.reversed.result.items in
+    let fresh2 = c.swap.new.other.items in
     let st2 = stood ph.problem c.args.phase.now c.args.first.now.value.items round.new.cells.items in
-    let counted : length fresh2 ≡ c.len.result = omega (arith, c.len.ensures, c.reversed.result.ok.0) in
+    let counted : length fresh2 ≡ c.len.result = omega (arith, c.len.ensures, c.swap.new.other.ok.0) in
     let sent2 = c.loop-alloc.sent + c.len.result in
     let handled2 = c.loop-alloc.handled + round.result.handled in
-    let next : Turns ph.react owners s st0 es0 sent2 handled2 st2 (pool mail2 ++ fresh2) = subst (λ n. Turns ph.react owners s st0 es0 (c.loop-alloc.sent + n) handled2 st2 (pool mail2 ++ fresh2)) counted (serves_more ph.react owners s st0 es0 c.loop-alloc.sent c.loop-alloc.handled st1 es1 t mail1 fresh1 sorted none round.result.handled mail2 round.new.cells.items round.new.out.items f st2 refl fresh2 c.reversed.ensures) in
+    let next : Turns ph.react owners s st0 es0 sent2 handled2 st2 (pool mail2 ++ fresh2) = subst (λ n. Turns ph.react owners s st0 es0 (c.loop-alloc.sent + n) handled2 st2 (pool mail2 ++ fresh2)) counted (serves_more ph.react owners s st0 es0 c.loop-alloc.sent c.loop-alloc.handled st1 es1 t mail1 fresh1 sorted none round.result.handled mail2 round.new.cells.items round.new.out.items f st2 refl fresh2 c.swap.ensures.other) in
     let few = few_after ph.problem ph.holds ph.weight ph.start_weight ph.react (record { keeps = law.keeps; lowers = law.lowers; same = law.same_problem; order = law.holds_in_any_order; same_weight = law.weighs_in_any_order; addressed = law.addressed; small = law.start_weight_fits }) owners s st0 es0 sent2 handled2 st2 (pool mail2 ++ fresh2) c.requires.stands next in
     omega (arith, few.1)
 
@@ -124,13 +124,14 @@ loop-alloc-preserved g c =
     let round = c.handle_round-round in
     let f = round.ensures.handled in
     let mail2 = round.new.mail.items in
-    let fresh2 = c.reversed.result.items in
+    let fresh2 = c.swap.new.other.items in
     let st2 = stood ph.problem c.args.phase.now c.args.first.now.value.items round.new.cells.items in
-    let counted : length fresh2 ≡ c.len.result = omega (arith, c.len.ensures, c.reversed.result.ok.0) in
+    let counted : length fresh2 ≡ c.len.result = omega (arith, c.len.ensures, c.swap.new.other.ok.0) in
     let sent2 = c.loop-alloc.sent + c.len.result in
     let handled2 = c.loop-alloc.handled + round.result.handled in
-    let next : Turns ph.react owners s st0 es0 sent2 handled2 st2 (pool mail2 ++ fresh2) = subst (λ n. Turns ph.react owners s st0 es0 (c.loop-alloc.sent + n) handled2 st2 (pool mail2 ++ fresh2)) counted (serves_more ph.react owners s st0 es0 c.loop-alloc.sent c.loop-alloc.handled st1 es1 t mail1 fresh1 sorted none round.result.handled mail2 round.new.cells.items round.new.out.items f st2 refl fresh2 c.reversed.ensures) in
+    let next : Turns ph.react owners s st0 es0 sent2 handled2 st2 (pool mail2 ++ fresh2) = subst (λ n. Turns ph.react owners s st0 es0 (c.loop-alloc.sent + n) handled2 st2 (pool mail2 ++ fresh2)) counted (serves_more ph.react owners s st0 es0 c.loop-alloc.sent c.loop-alloc.handled st1 es1 t mail1 fresh1 sorted none round.result.handled mail2 round.new.cells.items round.new.out.items f st2 refl fresh2 c.swap.ensures.other) in
     record {
+      none_sent = c.swap.ensures.items ∙ none;
       turns = next;
       addressed = all_back (λ x. x.to < length owners) (pool mail2) fresh2 (addressed_now ph.problem ph.holds ph.weight ph.start_weight ph.react (record { keeps = law.keeps; lowers = law.lowers; same = law.same_problem; order = law.holds_in_any_order; same_weight = law.weighs_in_any_order; addressed = law.addressed; small = law.start_weight_fits }) owners s st2 (pool mail2 ++ fresh2) (stands_after ph.problem ph.holds ph.weight ph.start_weight ph.react (record { keeps = law.keeps; lowers = law.lowers; same = law.same_problem; order = law.holds_in_any_order; same_weight = law.weighs_in_any_order; addressed = law.addressed; small = law.start_weight_fits }) owners s st0 es0 sent2 handled2 st2 (pool mail2 ++ fresh2) c.requires.stands next));
       sorted = still_sorted owners s mail1 mail2 f.es f.rest f.first f.left c.sort_out.ensures.sorted;
@@ -155,12 +156,12 @@ returns-then-round-eq0-clause-turns g c =
     let round = c.handle_round-round in
     let f = round.ensures.handled in
     let mail2 = round.new.mail.items in
-    let fresh2 = c.reversed.result.items in
+    let fresh2 = c.swap.new.other.items in
     let st2 = stood ph.problem c.args.phase.now c.args.first.now.value.items round.new.cells.items in
-    let counted : length fresh2 ≡ c.len.result = omega (arith, c.len.ensures, c.reversed.result.ok.0) in
+    let counted : length fresh2 ≡ c.len.result = omega (arith, c.len.ensures, c.swap.new.other.ok.0) in
     let sent2 = c.loop-alloc.sent + c.len.result in
     let handled2 = c.loop-alloc.handled + round.result.handled in
-    let next : Turns ph.react owners s st0 es0 sent2 handled2 st2 (pool mail2 ++ fresh2) = subst (λ n. Turns ph.react owners s st0 es0 (c.loop-alloc.sent + n) handled2 st2 (pool mail2 ++ fresh2)) counted (serves_more ph.react owners s st0 es0 c.loop-alloc.sent c.loop-alloc.handled st1 es1 t mail1 fresh1 sorted none round.result.handled mail2 round.new.cells.items round.new.out.items f st2 refl fresh2 c.reversed.ensures) in
+    let next : Turns ph.react owners s st0 es0 sent2 handled2 st2 (pool mail2 ++ fresh2) = subst (λ n. Turns ph.react owners s st0 es0 (c.loop-alloc.sent + n) handled2 st2 (pool mail2 ++ fresh2)) counted (serves_more ph.react owners s st0 es0 c.loop-alloc.sent c.loop-alloc.handled st1 es1 t mail1 fresh1 sorted none round.result.handled mail2 round.new.cells.items round.new.out.items f st2 refl fresh2 c.swap.ensures.other) in
     next
 
 pub returns-then-round-eq0-clause-addressed : goal.returns-then-round-eq0-clause-addressed
@@ -181,12 +182,12 @@ returns-then-round-eq0-clause-addressed g c =
     let round = c.handle_round-round in
     let f = round.ensures.handled in
     let mail2 = round.new.mail.items in
-    let fresh2 = c.reversed.result.items in
+    let fresh2 = c.swap.new.other.items in
     let st2 = stood ph.problem c.args.phase.now c.args.first.now.value.items round.new.cells.items in
-    let counted : length fresh2 ≡ c.len.result = omega (arith, c.len.ensures, c.reversed.result.ok.0) in
+    let counted : length fresh2 ≡ c.len.result = omega (arith, c.len.ensures, c.swap.new.other.ok.0) in
     let sent2 = c.loop-alloc.sent + c.len.result in
     let handled2 = c.loop-alloc.handled + round.result.handled in
-    let next : Turns ph.react owners s st0 es0 sent2 handled2 st2 (pool mail2 ++ fresh2) = subst (λ n. Turns ph.react owners s st0 es0 (c.loop-alloc.sent + n) handled2 st2 (pool mail2 ++ fresh2)) counted (serves_more ph.react owners s st0 es0 c.loop-alloc.sent c.loop-alloc.handled st1 es1 t mail1 fresh1 sorted none round.result.handled mail2 round.new.cells.items round.new.out.items f st2 refl fresh2 c.reversed.ensures) in
+    let next : Turns ph.react owners s st0 es0 sent2 handled2 st2 (pool mail2 ++ fresh2) = subst (λ n. Turns ph.react owners s st0 es0 (c.loop-alloc.sent + n) handled2 st2 (pool mail2 ++ fresh2)) counted (serves_more ph.react owners s st0 es0 c.loop-alloc.sent c.loop-alloc.handled st1 es1 t mail1 fresh1 sorted none round.result.handled mail2 round.new.cells.items round.new.out.items f st2 refl fresh2 c.swap.ensures.other) in
     all_back (λ x. x.to < length owners) (pool mail2) fresh2 (addressed_now ph.problem ph.holds ph.weight ph.start_weight ph.react (record { keeps = law.keeps; lowers = law.lowers; same = law.same_problem; order = law.holds_in_any_order; same_weight = law.weighs_in_any_order; addressed = law.addressed; small = law.start_weight_fits }) owners s st2 (pool mail2 ++ fresh2) (stands_after ph.problem ph.holds ph.weight ph.start_weight ph.react (record { keeps = law.keeps; lowers = law.lowers; same = law.same_problem; order = law.holds_in_any_order; same_weight = law.weighs_in_any_order; addressed = law.addressed; small = law.start_weight_fits }) owners s st0 es0 sent2 handled2 st2 (pool mail2 ++ fresh2) c.requires.stands next))
 
 pub returns-then-round-eq0-clause-sorted : goal.returns-then-round-eq0-clause-sorted
@@ -207,12 +208,12 @@ returns-then-round-eq0-clause-sorted g c =
     let round = c.handle_round-round in
     let f = round.ensures.handled in
     let mail2 = round.new.mail.items in
-    let fresh2 = c.reversed.result.items in
+    let fresh2 = c.swap.new.other.items in
     let st2 = stood ph.problem c.args.phase.now c.args.first.now.value.items round.new.cells.items in
-    let counted : length fresh2 ≡ c.len.result = omega (arith, c.len.ensures, c.reversed.result.ok.0) in
+    let counted : length fresh2 ≡ c.len.result = omega (arith, c.len.ensures, c.swap.new.other.ok.0) in
     let sent2 = c.loop-alloc.sent + c.len.result in
     let handled2 = c.loop-alloc.handled + round.result.handled in
-    let next : Turns ph.react owners s st0 es0 sent2 handled2 st2 (pool mail2 ++ fresh2) = subst (λ n. Turns ph.react owners s st0 es0 (c.loop-alloc.sent + n) handled2 st2 (pool mail2 ++ fresh2)) counted (serves_more ph.react owners s st0 es0 c.loop-alloc.sent c.loop-alloc.handled st1 es1 t mail1 fresh1 sorted none round.result.handled mail2 round.new.cells.items round.new.out.items f st2 refl fresh2 c.reversed.ensures) in
+    let next : Turns ph.react owners s st0 es0 sent2 handled2 st2 (pool mail2 ++ fresh2) = subst (λ n. Turns ph.react owners s st0 es0 (c.loop-alloc.sent + n) handled2 st2 (pool mail2 ++ fresh2)) counted (serves_more ph.react owners s st0 es0 c.loop-alloc.sent c.loop-alloc.handled st1 es1 t mail1 fresh1 sorted none round.result.handled mail2 round.new.cells.items round.new.out.items f st2 refl fresh2 c.swap.ensures.other) in
     still_sorted owners s mail1 mail2 f.es f.rest f.first f.left c.sort_out.ensures.sorted
 
 pub returns-then-not-round-clause-turns : goal.returns-then-not-round-clause-turns
@@ -233,12 +234,12 @@ returns-then-not-round-clause-turns g c =
     let round = c.handle_round-round in
     let f = round.ensures.handled in
     let mail2 = round.new.mail.items in
-    let fresh2 = c.reversed.result.items in
+    let fresh2 = c.swap.new.other.items in
     let st2 = stood ph.problem c.args.phase.now c.args.first.now.value.items round.new.cells.items in
-    let counted : length fresh2 ≡ c.len.result = omega (arith, c.len.ensures, c.reversed.result.ok.0) in
+    let counted : length fresh2 ≡ c.len.result = omega (arith, c.len.ensures, c.swap.new.other.ok.0) in
     let sent2 = c.loop-alloc.sent + c.len.result in
     let handled2 = c.loop-alloc.handled + round.result.handled in
-    let next : Turns ph.react owners s st0 es0 sent2 handled2 st2 (pool mail2 ++ fresh2) = subst (λ n. Turns ph.react owners s st0 es0 (c.loop-alloc.sent + n) handled2 st2 (pool mail2 ++ fresh2)) counted (serves_more ph.react owners s st0 es0 c.loop-alloc.sent c.loop-alloc.handled st1 es1 t mail1 fresh1 sorted none round.result.handled mail2 round.new.cells.items round.new.out.items f st2 refl fresh2 c.reversed.ensures) in
+    let next : Turns ph.react owners s st0 es0 sent2 handled2 st2 (pool mail2 ++ fresh2) = subst (λ n. Turns ph.react owners s st0 es0 (c.loop-alloc.sent + n) handled2 st2 (pool mail2 ++ fresh2)) counted (serves_more ph.react owners s st0 es0 c.loop-alloc.sent c.loop-alloc.handled st1 es1 t mail1 fresh1 sorted none round.result.handled mail2 round.new.cells.items round.new.out.items f st2 refl fresh2 c.swap.ensures.other) in
     next
 
 pub returns-then-not-round-clause-addressed : goal.returns-then-not-round-clause-addressed
@@ -259,12 +260,12 @@ returns-then-not-round-clause-addressed g c =
     let round = c.handle_round-round in
     let f = round.ensures.handled in
     let mail2 = round.new.mail.items in
-    let fresh2 = c.reversed.result.items in
+    let fresh2 = c.swap.new.other.items in
     let st2 = stood ph.problem c.args.phase.now c.args.first.now.value.items round.new.cells.items in
-    let counted : length fresh2 ≡ c.len.result = omega (arith, c.len.ensures, c.reversed.result.ok.0) in
+    let counted : length fresh2 ≡ c.len.result = omega (arith, c.len.ensures, c.swap.new.other.ok.0) in
     let sent2 = c.loop-alloc.sent + c.len.result in
     let handled2 = c.loop-alloc.handled + round.result.handled in
-    let next : Turns ph.react owners s st0 es0 sent2 handled2 st2 (pool mail2 ++ fresh2) = subst (λ n. Turns ph.react owners s st0 es0 (c.loop-alloc.sent + n) handled2 st2 (pool mail2 ++ fresh2)) counted (serves_more ph.react owners s st0 es0 c.loop-alloc.sent c.loop-alloc.handled st1 es1 t mail1 fresh1 sorted none round.result.handled mail2 round.new.cells.items round.new.out.items f st2 refl fresh2 c.reversed.ensures) in
+    let next : Turns ph.react owners s st0 es0 sent2 handled2 st2 (pool mail2 ++ fresh2) = subst (λ n. Turns ph.react owners s st0 es0 (c.loop-alloc.sent + n) handled2 st2 (pool mail2 ++ fresh2)) counted (serves_more ph.react owners s st0 es0 c.loop-alloc.sent c.loop-alloc.handled st1 es1 t mail1 fresh1 sorted none round.result.handled mail2 round.new.cells.items round.new.out.items f st2 refl fresh2 c.swap.ensures.other) in
     all_back (λ x. x.to < length owners) (pool mail2) fresh2 (addressed_now ph.problem ph.holds ph.weight ph.start_weight ph.react (record { keeps = law.keeps; lowers = law.lowers; same = law.same_problem; order = law.holds_in_any_order; same_weight = law.weighs_in_any_order; addressed = law.addressed; small = law.start_weight_fits }) owners s st2 (pool mail2 ++ fresh2) (stands_after ph.problem ph.holds ph.weight ph.start_weight ph.react (record { keeps = law.keeps; lowers = law.lowers; same = law.same_problem; order = law.holds_in_any_order; same_weight = law.weighs_in_any_order; addressed = law.addressed; small = law.start_weight_fits }) owners s st0 es0 sent2 handled2 st2 (pool mail2 ++ fresh2) c.requires.stands next))
 
 pub returns-then-not-round-clause-sorted : goal.returns-then-not-round-clause-sorted
@@ -285,12 +286,12 @@ returns-then-not-round-clause-sorted g c =
     let round = c.handle_round-round in
     let f = round.ensures.handled in
     let mail2 = round.new.mail.items in
-    let fresh2 = c.reversed.result.items in
+    let fresh2 = c.swap.new.other.items in
     let st2 = stood ph.problem c.args.phase.now c.args.first.now.value.items round.new.cells.items in
-    let counted : length fresh2 ≡ c.len.result = omega (arith, c.len.ensures, c.reversed.result.ok.0) in
+    let counted : length fresh2 ≡ c.len.result = omega (arith, c.len.ensures, c.swap.new.other.ok.0) in
     let sent2 = c.loop-alloc.sent + c.len.result in
     let handled2 = c.loop-alloc.handled + round.result.handled in
-    let next : Turns ph.react owners s st0 es0 sent2 handled2 st2 (pool mail2 ++ fresh2) = subst (λ n. Turns ph.react owners s st0 es0 (c.loop-alloc.sent + n) handled2 st2 (pool mail2 ++ fresh2)) counted (serves_more ph.react owners s st0 es0 c.loop-alloc.sent c.loop-alloc.handled st1 es1 t mail1 fresh1 sorted none round.result.handled mail2 round.new.cells.items round.new.out.items f st2 refl fresh2 c.reversed.ensures) in
+    let next : Turns ph.react owners s st0 es0 sent2 handled2 st2 (pool mail2 ++ fresh2) = subst (λ n. Turns ph.react owners s st0 es0 (c.loop-alloc.sent + n) handled2 st2 (pool mail2 ++ fresh2)) counted (serves_more ph.react owners s st0 es0 c.loop-alloc.sent c.loop-alloc.handled st1 es1 t mail1 fresh1 sorted none round.result.handled mail2 round.new.cells.items round.new.out.items f st2 refl fresh2 c.swap.ensures.other) in
     still_sorted owners s mail1 mail2 f.es f.rest f.first f.left c.sort_out.ensures.sorted
 
 pub returns-after-loop-alloc-clause-turns : goal.returns-after-loop-alloc-clause-turns

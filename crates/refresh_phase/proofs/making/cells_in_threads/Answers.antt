@@ -1,8 +1,9 @@
 -- Bare cells of all blocks, each of which has its pieces then.
 use Rattle.std.proofs.Common.{◌≡◌, ℕ, true, List, Some, length, map, refl, ap, ◌∙◌, subst}
 use Rattle.std.specs.Prelude.{slice_get}
+use Rattle.phase_core.specs.Lemmas.ListsByPlaces.{written_back}
 use Rattle.refresh_phase.specs.declared.making.Making.{Making}
-use Rattle.refresh_phase.proofs.MadeCells.{all-first, bare-each, written_back}
+use Rattle.refresh_phase.proofs.MadeCells.{all-first, bare-each}
 use Rattle.refresh_phase.proofs.making.cells_in_threads.Goals as goal
 
 pub make_each-requires-clause-each : goal.make_each-requires-clause-each
