@@ -11,8 +11,8 @@ use cello_num::Memory;
 use leaf_set::LeafSet;
 use sibling_rule::opening;
 use std::alloc::Global;
-use std::thread;
 use std::thread::Threads;
+use thread_runs::for_each_mut;
 
 /// The cells that `first_cells` makes, in at most as many threads as there are workers. Each thread has a run of leaves
 /// that follow one another.
@@ -71,7 +71,7 @@ fn make_each<R: Threads + Sync>(
     ensures one_each { length slots.new ≡ length slots.old }
     ensures each { (i : ℕ) (slot : _) → slice_get slots.new i ≡ Some slot → IfSome slot (λ cell. IsFirstCell set.now.grid set.now.places wishes.now openings.now i cell) }
 {
-    thread::for_each_mut(
+    for_each_mut(
         rt,
         slots,
         workers as usize,

@@ -12,6 +12,7 @@ use params_check::Params;
 use std::alloc::Global;
 use std::thread::Threads;
 use std::{mem, thread};
+use thread_runs::for_each_mut;
 
 /// A block, and the fluxes of its outermost faces once it is advanced.
 #[derive(Drop)]
@@ -65,7 +66,7 @@ fn advance_each<R: Threads + Sync>(
     ensures one_each { length moving.new ≡ length moving.old }
     ensures each { (i : ℕ) (m n : _) → slice_get moving.old i ≡ Some m → slice_get moving.new i ≡ Some n → WasAdvanced params.now m.block n.block n.faces }
 {
-    thread::for_each_mut(
+    for_each_mut(
         rt,
         moving,
         workers as usize,

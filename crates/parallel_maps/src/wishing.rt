@@ -11,8 +11,8 @@ use cello_num::Memory;
 use criteria::wish;
 use params_check::Criterion;
 use std::alloc::Global;
-use std::thread;
 use std::thread::Threads;
+use thread_runs::for_each_mut;
 
 /// The wish of each block in a phase, in order, from its amounts and its ghosts.
 pub fn block_wishes(
@@ -67,7 +67,7 @@ fn wish_each<R: Threads + Sync>(
     requires small { (i : ℕ) (b : BlockState) → slice_get blocks.now i ≡ Some b → IsSmall b }
     ensures wishes { wishes.new ≡ map (λ b. criteria_wish b.edge phase criteria.now (seen_at b) b.place) blocks.now }
 {
-    thread::for_each_mut(
+    for_each_mut(
         rt,
         wishes,
         workers as usize,

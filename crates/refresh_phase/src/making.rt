@@ -11,8 +11,8 @@ use block_fields::Block;
 use cello_num::Memory;
 use leaf_set::LeafSet;
 use std::alloc::Global;
-use std::thread;
 use std::thread::Threads;
+use thread_runs::for_each_mut;
 
 /// A cell that is bare, or has its pieces.
 #[derive(Drop)]
@@ -72,7 +72,7 @@ fn make_each<R: Threads + Sync>(
     ensures one_each { length making.new ≡ length making.old }
     ensures each { (i : ℕ) (m n : _) → slice_get making.old i ≡ Some m → slice_get making.new i ≡ Some n → IsMade set.now.grid set.now.places i m n }
 {
-    thread::for_each_mut(
+    for_each_mut(
         rt,
         making,
         workers as usize,

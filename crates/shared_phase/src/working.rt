@@ -9,8 +9,8 @@ use phase_core::Phase;
 use post_office::{Post, PostSeat};
 use std::alloc::Global;
 use std::sync::Wait;
-use std::thread;
 use std::thread::Threads;
+use thread_runs::map_vec;
 
 /// Has each seat work in a thread of its own, until it has seen a verdict. It may wait.
 pub(crate) fn work_all<R: Threads + Wait + Sync, P: Phase + Sync, G: Gate + Sync>(
@@ -28,8 +28,9 @@ where
     ensures count { IfOk result (λ v. vec_len v ≡ vec_len seats) }
     ensures each { IfOk result (λ v. (i : ℕ) (s : _) → slice_get v.items i ≡ Some s → (s.number ≡ i) × (s.place.table_id ≡ post.now.board.table.shared.table_id) × StaysSeat (dealt_view (vec_len seats) i) s.place.me.0 × (s.place.me.0.seen ≢ 0)) }
 {
-    let worked = thread::map_vec(
+    let worked = map_vec(
         rt,
+        alloc,
         seats,
         &|seat| -> PostSeat<P>
             requires ready { (seat.place.table_id ≡ post.now.board.table.shared.table_id) × (seat.place.me.0.hands ≡ []) }

@@ -12,7 +12,7 @@ use Rattle.parallel_maps.proofs.wishing.wish_each.Goals as goal
 pub returns : goal.returns
 returns g c =
     let blocks = c.args.blocks.now in
-    let made = c.for_each_mut.new.s in
+    let made = c.for_each_mut.new.elements in
     let wish_at : BlockState → Wish = λ b. criteria_wish b.edge c.args.phase c.args.criteria.now (seen_at b) b.place in
     let same_count : length made ≡ length c.args.wishes.now = first_of (search rules, grind (arith, common_steps)) in
     let long : length blocks ≡ length made = omega (arith, same_count, c.requires.one_each) in

@@ -15,6 +15,6 @@ returns-clause-each g c = λ i m n before after.
     let set = c.args.set.now in
     let it = (c.for_each_mut.ensures i m (slice_get_within c.args.making.now i m before)).1 in
     let was = it.argument_is ∙ get_or_from_slice_get c.args.making.now i m m before in
-    let is = it.left ∙ get_or_from_slice_get c.for_each_mut.new.s i n m after in
+    let is = it.left ∙ get_or_from_slice_get c.for_each_mut.new.elements i n m after in
     subst (λ (y : Making). IsMade set.grid set.places i m y) is
     (subst (λ (x : Making). IsMade set.grid set.places i x it.after_call.now) was it.call)

@@ -20,7 +20,7 @@ map_vec-requires-send-X g c κs within = param_send 2 _ (arg_send _ no _ (seat_s
 pub map_vec-requires-sync-F : goal.map_vec-requires-sync-F
 map_vec-requires-sync-F g c κs within =
     let shared = post_sync (param 1 g.row.P) (param 3 g.row.P-Cell) (param 4 g.row.P-Msg) (param 5 g.row.P-Problem) g.P.Phase c.type_bounds.sync-P c.type_bounds.send-P-Cell c.type_bounds.send-P-Msg in
-    param_sync 4 _ (arg_sync _ no _ (captures_sync _ _ _ _ _ (shr_sync _ _ _ shared) (shr_sync _ _ _ c.type_bounds.sync-R) (shr_sync _ _ _ sync) (shr_sync _ _ _ c.type_bounds.sync-G)))
+    param_sync 3 _ (arg_sync _ no _ (captures_sync _ _ _ _ _ (shr_sync _ _ _ shared) (shr_sync _ _ _ c.type_bounds.sync-R) (shr_sync _ _ _ sync) (shr_sync _ _ _ c.type_bounds.sync-G)))
 
 pub returns-clause-each : goal.returns-clause-each
 returns-clause-each g c = λ i s e.

@@ -1,0 +1,106 @@
+-- Lists whose places are gone through one after another, or part by part, and lists of jobs.
+use Rattle.std.proofs.Common.{◌≡◌, ℕ, zero, suc, ◌+◌, ◌-◌, ◌<◌, ◌≤◌, List, [], ◌∷◌, ◌++◌, Some, length, refl, sym, ap, ◌∙◌, subst, arith, inl, inr, length-append}
+use Rattle.std.specs.Prelude.{slice_get, slice_index_or, slice_set}
+use Rattle.std.proofs.lemmas.List.{length-set, get_or-set_same, get_or-set_other, get_or_append_left, get_or-append-add}
+use Rattle.std.proofs.lemmas.Bool.{cases_lt}
+use Rattle.std.proofs.lemmas.Option.{slice_get-get_or, slice_get_within, get_or_from_slice_get}
+use denote.Param.Members.{Shared}
+use Rattle.std.specs.Fork.{AcceptsJobs, GivesJobs}
+use Rattle.thread_runs.specs.Jobs.{GivesAll, TakesAll}
+
+-- ---- one place after another
+
+-- R holds of each place below n, before and after, and the others stand as they did
+pub record Course {T : Type 0} (R : ℕ → T → T → Type 0) (n : ℕ) (old now : List T) : Type 0 where
+  pub many : length now ≡ length old
+  pub ahead : (j : ℕ) (d : T) → n ≤ j → slice_index_or now j d ≡ slice_index_or old j d
+  pub changed : (j : ℕ) (d : T) → j < n → R j (slice_index_or old j d) (slice_index_or now j d)
+
+pub one_more : {T : Type 0} (R : ℕ → T → T → Type 0) (n : ℕ) (old now : List T) (y : T) → n < length now → Course R n old now
+    → ((d : T) → R n (slice_index_or now n d) y) → Course R (n + 1) old (slice_set now n y)
+one_more {T} R n old now y within course is = record {
+  many = length-set now n y ∙ course.many;
+  ahead = λ j d h. get_or-set_other now n j y d (λ e. omega (arith, h, e)) ∙ course.ahead j d (omega (arith, h));
+  changed = λ j d h. elim (cases_lt j n) [
+    | inl below ↦ subst (R j (slice_index_or old j d)) (sym (get_or-set_other now n j y d (λ e. omega (arith, below, e)))) (course.changed j d below)
+    | inr above ↦
+        let same : n ≡ j = omega (arith, h, above) in
+        subst (λ (i : ℕ). R i (slice_index_or old i d) (slice_index_or (slice_set now n y) i d)) same
+        (subst (λ (x : T). R n x (slice_index_or (slice_set now n y) n d)) (course.ahead n d (omega arith))
+        (subst (R n (slice_index_or now n d)) (sym (get_or-set_same now n y d within)) (is d)))
+  ];
+}
+
+-- ---- part by part
+
+-- R holds of each place, counted from a base, before and after
+pub record Changes {T : Type 0} (R : ℕ → T → T → Type 0) (base : ℕ) (old now : List T) : Type 0 where
+  pub many : length now ≡ length old
+  pub each : (i : ℕ) (d : T) → i < length old → R (base + i) (slice_index_or old i d) (slice_index_or now i d)
+
+-- the two parts of what P holds of each place of
+pub in_front : {T : Type 0} (P : ℕ → T → Type 0) (base : ℕ) (all first rest : List T) → all ≡ first ++ rest
+    → ((i : ℕ) (d : T) → i < length all → P (base + i) (slice_index_or all i d)) → (i : ℕ) (d : T) → i < length first → P (base + i) (slice_index_or first i d)
+in_front P base all first rest is each i d h =
+    let long = length-append first rest in
+    let whole = ap length is in
+    subst (P (base + i)) (ap (λ l. slice_index_or l i d) is ∙ get_or_append_left first rest d i h) (each i d (omega (arith, h, long, whole)))
+
+pub behind : {T : Type 0} (P : ℕ → T → Type 0) (base next : ℕ) (all first rest : List T) → all ≡ first ++ rest → next ≡ base + length first
+    → ((i : ℕ) (d : T) → i < length all → P (base + i) (slice_index_or all i d)) → (i : ℕ) (d : T) → i < length rest → P (next + i) (slice_index_or rest i d)
+behind {T} P base next all first rest is after each i d h =
+    let long = length-append first rest in
+    let whole = ap length is in
+    let place : base + (length first + i) ≡ next + i = omega (arith, after) in
+    subst (λ (n : ℕ). P n (slice_index_or rest i d)) place
+    (subst (P (base + (length first + i))) (ap (λ l. slice_index_or l (length first + i) d) is ∙ get_or-append-add first rest i d) (each (length first + i) d (omega (arith, h, long, whole))))
+
+-- what holds of both parts holds of the whole
+pub joined : {T : Type 0} (R : ℕ → T → T → Type 0) (base next : ℕ) (all first rest first_now rest_now : List T) → all ≡ first ++ rest → next ≡ base + length first
+    → Changes R base first first_now → Changes R next rest rest_now → Changes R base all (first_now ++ rest_now)
+joined {T} R base next all first rest first_now rest_now is after one other =
+    let long = length-append first rest in
+    let long_now = length-append first_now rest_now in
+    let whole = ap length is in
+    let one_many = one.many in
+    let other_many = other.many in
+    record {
+      many = omega (arith, long, long_now, whole, one_many, other_many);
+      each = λ i d h. elim (cases_lt i (length first)) [
+        | inl below ↦
+            subst (λ (x : T). R (base + i) x (slice_index_or (first_now ++ rest_now) i d)) (sym (ap (λ l. slice_index_or l i d) is ∙ get_or_append_left first rest d i below))
+            (subst (R (base + i) (slice_index_or first i d)) (sym (get_or_append_left first_now rest_now d i (omega (arith, below, one_many)))) (one.each i d below))
+        | inr above ↦
+            let k = i - length first in
+            let here : length first + k ≡ i = omega (arith, above) in
+            let here_now : length first_now + k ≡ i = omega (arith, above, one_many) in
+            let place : next + k ≡ base + i = omega (arith, after, above) in
+            subst (λ (n : ℕ). R n (slice_index_or all i d) (slice_index_or (first_now ++ rest_now) i d)) place
+            (subst (λ (x : T). R (next + k) x (slice_index_or (first_now ++ rest_now) i d)) (sym (ap (λ l. slice_index_or l i d) is ∙ (ap (λ n. slice_index_or (first ++ rest) n d) (sym here) ∙ get_or-append-add first rest k d)))
+            (subst (R (next + k) (slice_index_or rest k d)) (sym (ap (λ n. slice_index_or (first_now ++ rest_now) n d) (sym here_now) ∙ get_or-append-add first_now rest_now k d))
+            (other.each k d (omega (arith, above, h, long, whole)))))
+      ];
+    }
+
+-- ---- jobs and their results
+
+an_element : {A : Type 0} (xs : List A) (i : ℕ) → i < length xs → (x : A) × (slice_get xs i ≡ Some x)
+an_element [] i h = absurd (omega (arith, h))
+an_element (x ∷ xs) zero h = (x, refl)
+an_element (x ∷ xs) (suc i) h = an_element xs i (omega (arith, h))
+
+pub takes : {F J R : Type 0} (g : Shared F (J × Unit {0}) R) (f : F) (js : List J) → AcceptsJobs g f js → TakesAll g f js
+takes g f js accepts i j at = accepts i j (slice_get_within js i j at) (sym (get_or_from_slice_get js i j j at))
+
+pub gives : {F J R : Type 0} (g : Shared F (J × Unit {0}) R) (f : F) (js : List J) (rs : List R) → GivesAll g f js rs → GivesJobs g f js rs
+gives g f js rs all i d below =
+    let job = an_element js i below in
+    let many = all.many in (
+      refl,
+      record {
+        job = job.0;
+        job_read = sym (get_or_from_slice_get js i job.0 job.0 job.1);
+        job_is = λ x. get_or_from_slice_get js i job.0 x job.1;
+        call = all.each i job.0 (slice_index_or rs i d) job.1 (slice_get-get_or rs i d (omega (arith, below, many)));
+      },
+    )
