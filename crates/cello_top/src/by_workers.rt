@@ -19,12 +19,13 @@ ghost use Rattle.cello_top.specs.Solo.{ReadOut, Answers, AnswersInPart, HoldByte
 ghost use Rattle.cello_top.specs.Counts.{HandlesWithin};
 ghost use Rattle.cello_top.specs.Lemmas.CommandSteps.{IsOfCommand};
 ghost use Rattle.block_fields.specs.Blocks.{BlockState, amounts_of, seen_at};
-ghost use Rattle.block_fields.specs.BlockStates.{AreBlocksOf, state_of};
+ghost use Rattle.block_fields.specs.BlockStates.{AreBlocksOf, state_before, state_of};
 ghost use Rattle.params_check.specs.Limits.{KeepsCriterion};
 ghost use Rattle.criteria.specs.Samples.{IsSmall};
 ghost use Rattle.criteria.specs.Wishes.{criteria_wish};
 ghost use Rattle.refresh_phase.specs.Problem.{RefreshBegins};
-ghost use Rattle.flux_register.specs.Made.{AreUpwindAdvanced};
+ghost use Rattle.grid_fluxes.specs.Fluxes.{Fluxes};
+ghost use Rattle.flux_register.specs.Made.{AreAdvancedBy, AreUpwindAdvanced, IsMadeBy};
 ghost use Rattle.flux_register.specs.Problem.{FluxFixBegins};
 ghost use Rattle.parallel_maps.specs.Advances.{CanAdvance};
 ghost use Rattle.crew.specs.Counts.{CountsWithin};
@@ -173,6 +174,20 @@ pub(crate) fn obey_by_workers<
             ensures wishes { IfOk result (λ r. adapt_problem.wishes_of (adapt_problem.problem_of r.0 r.1.items) ≡ wishes.now) }
             ensures begins { IfOk result (λ r. adapt_problem.AdaptBegins (adapt_problem.problem_of r.0 r.1.items) r.1.items) }
         { Adapt::begin_in_threads(rt, alloc, workers, set, wishes) },
+        begin_flux: |alloc: Global, set: &LeafSet, blocks: Vec<Block>, faces: Vec<
+            FaceFluxes,
+        >| -> Result<(FluxFix, Vec<FluxCell>), Memory>
+            requires workers { (1 ≤ workers) × (workers ≤ 16) }
+            requires made { (n : ℕ) × (fields : ℕ) × (depth : ℕ) × (fluxes : Fluxes) × AreAdvancedBy set.now.grid set.now.places n fields depth blocks.items faces.items fluxes }
+            ensures sizes { (n fields depth : ℕ) → AreBlocksOf set.now.places n fields depth blocks.items →
+                IfOk result (λ r. r.0 ≡ record { grid = set.now.grid; edge = n; fields = fields }) }
+            ensures state { (n fields depth : ℕ) → AreBlocksOf set.now.places n fields depth blocks.items →
+                IfOk result (λ r. flux_cells.state_in (flux_cells.problem_of r.0 r.1.items) ≡ state_before set.now.grid n fields blocks.items) }
+            ensures parts { IfOk result (λ r. map (λ k. k.before) (flux_cells.problem_of r.0 r.1.items).parts ≡ map flux_cells.unadvanced blocks.items) }
+            ensures made { (n fields depth : ℕ) (fluxes : Fluxes) → AreAdvancedBy set.now.grid set.now.places n fields depth blocks.items faces.items fluxes →
+                IfOk result (λ r. IsMadeBy (flux_cells.problem_of r.0 r.1.items) fluxes) }
+            ensures begins { IfOk result (λ r. FluxFixBegins (flux_cells.problem_of r.0 r.1.items) r.1.items) }
+        { FluxFix::begin_in_threads(rt, alloc, workers, set, blocks, faces) },
         refresh: |alloc: Global, phase: Refresh, cells: Vec<RefreshCell>| -> Result<
             Quiet<Refresh>,
             Memory,

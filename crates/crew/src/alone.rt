@@ -40,6 +40,17 @@ impl Maker for Alone {
         let begun = Adapt::begin(alloc, set, wishes)?;
         Ok(begun)
     }
+
+    fn begin_flux(
+        &self,
+        alloc: Global,
+        set: &LeafSet,
+        blocks: Vec<Block>,
+        faces: Vec<FaceFluxes>,
+    ) -> Result<(FluxFix, Vec<FluxCell>), Memory> {
+        let begun = FluxFix::begin(alloc, set, blocks, faces)?;
+        Ok(begun)
+    }
 }
 
 impl Crew for Alone {

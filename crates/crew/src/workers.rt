@@ -17,9 +17,10 @@ use std::alloc::Global;
 /// that a struct holds, the prover doesn't know in an impl of a trait that threads may share them. `ready` says what each
 /// closure asks and answers.
 #[derive(Drop)]
-pub struct Workers<A, B, C, D, E, F, G> {
+pub struct Workers<A, B, C, D, E, F, G, H> {
     pub begin_refresh: F,
     pub begin_adapt: G,
+    pub begin_flux: H,
     pub refresh: A,
     pub adapt: B,
     pub correct: C,
@@ -35,10 +36,16 @@ impl<
     E: Fn(Global, &Params, &mut Vec<Block>) -> Result<Vec<FaceFluxes>, Memory>,
     F: Fn(Global, &LeafSet, Vec<Block>) -> Result<(Refresh, Vec<RefreshCell>), Memory>,
     G: Fn(Global, &LeafSet, &[Wish]) -> Result<(Adapt, Vec<AdaptCell>), Memory>,
-> Maker for Workers<A, B, C, D, E, F, G> {
+    H: Fn(
+        Global,
+        &LeafSet,
+        Vec<Block>,
+        Vec<FaceFluxes>,
+    ) -> Result<(FluxFix, Vec<FluxCell>), Memory>,
+> Maker for Workers<A, B, C, D, E, F, G, H> {
     ghost use Rattle.std.specs.Prelude.{◌≡◌, ℕ, ◌^◌, ◌≤◌, All, IfOk, Some, length, map, slice_get, sum};
     ghost use Rattle.block_fields.specs.Blocks.{BlockState, amounts_of, seen_at};
-    ghost use Rattle.block_fields.specs.BlockStates.{AreBlocksOf, state_of};
+    ghost use Rattle.block_fields.specs.BlockStates.{AreBlocksOf, state_before, state_of};
     ghost use Rattle.params_check.specs.Limits.{KeepsCriterion};
     ghost use Rattle.criteria.specs.Samples.{IsSmall};
     ghost use Rattle.criteria.specs.Wishes.{criteria_wish};
@@ -46,7 +53,8 @@ impl<
     ghost use Rattle.refresh_phase.specs.Cells as refresh_cells;
     ghost use Rattle.refresh_phase.specs.Problem.{RefreshBegins};
     ghost use Rattle.flux_register.specs.Cells as flux_cells;
-    ghost use Rattle.flux_register.specs.Made.{AreUpwindAdvanced};
+    ghost use Rattle.grid_fluxes.specs.Fluxes.{Fluxes};
+    ghost use Rattle.flux_register.specs.Made.{AreAdvancedBy, AreUpwindAdvanced, IsMadeBy};
     ghost use Rattle.flux_register.specs.Problem.{FluxFixBegins};
     ghost use Rattle.parallel_maps.specs.Advances.{CanAdvance};
     ghost use Rattle.crew.specs.Counts.{CountsWithin};
@@ -77,7 +85,18 @@ impl<
         × ((a s ws r : _) → G.post w.begin_adapt a s ws r → IfOk r (λ r. ((adapt_problem.problem_of r.0 r.1.items).grid ≡ s.now.grid)
         × (adapt_problem.mesh_of (adapt_problem.problem_of r.0 r.1.items) ≡ s.now.places)
         × (adapt_problem.wishes_of (adapt_problem.problem_of r.0 r.1.items) ≡ ws.now)
-        × adapt_problem.AdaptBegins (adapt_problem.problem_of r.0 r.1.items) r.1.items)) };
+        × adapt_problem.AdaptBegins (adapt_problem.problem_of r.0 r.1.items) r.1.items))
+        × ((a s bs fs : _) → ((n : ℕ) × (fields : ℕ) × (depth : ℕ) × (fluxes : Fluxes) × AreAdvancedBy s.now.grid s.now.places n fields depth bs.items fs.items fluxes)
+        → H.pre w.begin_flux a s bs fs)
+        × ((a s bs fs r : _) → H.post w.begin_flux a s bs fs r → (n fields depth : ℕ) → AreBlocksOf s.now.places n fields depth bs.items →
+        IfOk r (λ r. r.0 ≡ record { grid = s.now.grid; edge = n; fields = fields }))
+        × ((a s bs fs r : _) → H.post w.begin_flux a s bs fs r → (n fields depth : ℕ) → AreBlocksOf s.now.places n fields depth bs.items →
+        IfOk r (λ r. flux_cells.state_in (flux_cells.problem_of r.0 r.1.items) ≡ state_before s.now.grid n fields bs.items))
+        × ((a s bs fs r : _) → H.post w.begin_flux a s bs fs r → IfOk r (λ r.
+        map (λ k. k.before) (flux_cells.problem_of r.0 r.1.items).parts ≡ map flux_cells.unadvanced bs.items))
+        × ((a s bs fs r : _) → H.post w.begin_flux a s bs fs r → (n fields depth : ℕ) (fluxes : Fluxes)
+        → AreAdvancedBy s.now.grid s.now.places n fields depth bs.items fs.items fluxes → IfOk r (λ r. IsMadeBy (flux_cells.problem_of r.0 r.1.items) fluxes))
+        × ((a s bs fs r : _) → H.post w.begin_flux a s bs fs r → IfOk r (λ r. FluxFixBegins (flux_cells.problem_of r.0 r.1.items) r.1.items)) };
 
     fn begin_refresh(
         &self,
@@ -97,6 +116,16 @@ impl<
         let begun = (self.begin_adapt)(alloc, set, wishes)?;
         Ok(begun)
     }
+
+    fn begin_flux(
+        &self,
+        alloc: Global,
+        set: &LeafSet,
+        blocks: Vec<Block>,
+        faces: Vec<FaceFluxes>,
+    ) -> Result<(FluxFix, Vec<FluxCell>), Memory> {
+        (self.begin_flux)(alloc, set, blocks, faces)
+    }
 }
 
 impl<
@@ -107,7 +136,13 @@ impl<
     E: Fn(Global, &Params, &mut Vec<Block>) -> Result<Vec<FaceFluxes>, Memory>,
     F: Fn(Global, &LeafSet, Vec<Block>) -> Result<(Refresh, Vec<RefreshCell>), Memory>,
     G: Fn(Global, &LeafSet, &[Wish]) -> Result<(Adapt, Vec<AdaptCell>), Memory>,
-> Crew for Workers<A, B, C, D, E, F, G> {
+    H: Fn(
+        Global,
+        &LeafSet,
+        Vec<Block>,
+        Vec<FaceFluxes>,
+    ) -> Result<(FluxFix, Vec<FluxCell>), Memory>,
+> Crew for Workers<A, B, C, D, E, F, G, H> {
     ghost use Rattle.crew.specs.Counts.{CountsWithin};
 
     ghost counts = { CountsWithin };

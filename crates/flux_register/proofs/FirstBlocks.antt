@@ -1,31 +1,13 @@
 -- Walking over the blocks of a mesh and the fluxes of their faces, a first cell for each.
-use Rattle.std.proofs.Common.{◌≡◌, ℕ, zero, suc, ◌+◌, false, List, [], ◌∷◌, ◌++◌, Some, length, map, refl, sym, ap, ◌∙◌, subst, arith, append_assoc, append-nil, length-append}
+use Rattle.std.proofs.Common.{◌≡◌, ℕ, zero, suc, ◌+◌, List, [], ◌∷◌, ◌++◌, Some, length, map, refl, sym, ap, ◌∙◌, subst, arith, append_assoc, append-nil, length-append}
 use Rattle.std.specs.Prelude.{slice_get}
 use Rattle.std.proofs.lemmas.List.{length-map}
 use Rattle.std.proofs.lemmas.Option.{none-some, same_Some}
 use Rattle.block_index.specs.Places.{Cube, Grid}
 use Rattle.block_fields.specs.Blocks.{BlockState}
 use Rattle.advect.specs.FaceFluxes.{FaceFluxState}
-use Rattle.advect.specs.FluxPieces.{FluxPieceState, flux_piece, no_sums}
-use Rattle.flux_register.specs.Faces.{FluxFace, AreOwedFaces}
-use Rattle.flux_register.specs.Cells.{FluxState, blank}
+use Rattle.flux_register.specs.Cells.{FluxState}
 use Rattle.flux_register.specs.Lemmas.FirstCells.{IsFirstCell, AreFirstCells}
-
--- ---- one cell
-
-pub first_cell_is : (grid : Grid) (mesh : List Cube) (i n fields : ℕ) (c : FluxState) (b : BlockState) (q : FaceFluxState) (owes lent : List FluxFace) (owed : List FluxPieceState)
-    → c ≡ record { block = b; faces = q; owes = owes; owed = owed; started = false }
-    → owed ≡ map (λ (face : FluxFace). flux_piece face.to face.from face.place face.side n (no_sums n fields)) lent → lent ≡ owes → n ≡ b.edge → fields ≡ length b.amounts → AreOwedFaces grid mesh i owes → IsFirstCell grid mesh i c
-first_cell_is grid mesh i n fields c b q owes lent owed is pieces same edge number faces = subst (IsFirstCell grid mesh i) (sym is) (record {
-  started = refl;
-  owed = pieces
-      ∙ (ap (λ (l : List FluxFace). map (blank (record { grid = grid; edge = n; fields = fields })) l) same
-      ∙ (ap (λ (m : ℕ). map (blank (record { grid = grid; edge = m; fields = fields })) owes) edge
-      ∙ ap (λ (m : ℕ). map (blank (record { grid = grid; edge = b.edge; fields = m })) owes) number));
-  owes = faces;
-})
-
--- ---- the walk
 
 -- the cells so far, and the blocks and fluxes that are left
 pub record Walks (grid : Grid) (mesh : List Cube) (blocks : List BlockState) (faces : List FaceFluxState) (cells : List FluxState) (rest : List BlockState) (left : List FaceFluxState) : Type 0 where

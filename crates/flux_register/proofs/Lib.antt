@@ -23,6 +23,7 @@ pub mod CoarserAcross
 pub mod FoundFaces
 pub mod FirstBlocks
 pub mod Beginning
+pub mod MadeCells
 pub mod OuterSums
 pub mod OuterLeaves
 pub mod OuterFlows

@@ -2,5 +2,6 @@
 -- flows out.
 pub mod FluxLaws
 pub mod FirstCells
+pub mod Made
 pub mod Sending
 pub mod Outward

@@ -6,6 +6,7 @@ ghost use Rattle.advect.specs.FaceFluxes.{IsSide};
 ghost use Rattle.advect.specs.FluxPieces.{StaysWithin, is_behind, reduced};
 ghost use Rattle.flux_register.specs.Faces.{opposite};
 ghost use Rattle.flux_register.specs.React.{corrected_block, sent_piece, sent_pieces};
+ghost use Rattle.flux_register.specs.Lemmas.FirstCells.{bare};
 ghost use Rattle.flux_register.specs.Lemmas.Sending.{CanCorrect, CanReduce};
 
 use crate::coarse_face::CoarseFace;
@@ -37,24 +38,25 @@ impl Model for FluxCell {
 }
 
 impl FluxCell {
-    ghost use Rattle.std.specs.Prelude.{false};
-
-    /// A cell before anything is handled.
-    pub(crate) fn fresh(
-        block: Block,
-        faces: FaceFluxes,
-        owes: Vec<CoarseFace>,
-        owed: Vec<FluxPiece>,
-    ) -> FluxCell
-        ensures { result ≡ record { block = block; faces = faces; owes = owes.items; owed = owed.items; started = false } }
+    /// A cell without the pieces that it owes.
+    pub(crate) fn bare(alloc: Global, block: Block, faces: FaceFluxes) -> FluxCell
+        ensures { result ≡ bare block faces }
     {
         FluxCell {
             block,
             faces,
-            owes,
-            owed,
+            owes: Vec::new(alloc),
+            owed: Vec::new(alloc),
             started: false,
         }
+    }
+
+    /// Gives the cell its faces with a coarser leaf across, and the pieces that it owes for these.
+    pub(crate) fn owe(&mut self, owes: Vec<CoarseFace>, owed: Vec<FluxPiece>)
+        ensures { self.new ≡ record self.old { owes = owes.items; owed = owed.items } }
+    {
+        self.owes = owes;
+        self.owed = owed;
     }
 
     /// The block.

@@ -5,7 +5,7 @@ ghost use Rattle.block_fields.specs.BlockStates.{AreBlocksOf};
 ghost use Rattle.advect.specs.FaceFluxes.{IsSide};
 ghost use Rattle.advect.specs.FluxPieces.{flux_piece, no_sums};
 ghost use Rattle.flux_register.specs.Faces.{FluxFace};
-ghost use Rattle.flux_register.specs.Lemmas.FirstCells.{AreFirstCells, IsFirstCell};
+ghost use Rattle.flux_register.specs.Lemmas.FirstCells.{AreFirstCells, IsFirstCell, bare};
 
 use crate::cell::FluxCell;
 use crate::coarse_face::CoarseFace;
@@ -50,9 +50,30 @@ fn first_cell(
     ensures block { IfOk result (λ cell. cell.block ≡ block) }
     ensures faces { IfOk result (λ cell. cell.faces ≡ faces) }
 {
+    let mut cell = FluxCell::bare(alloc, block, faces);
+    take_faces(alloc, set, at, &mut cell)?;
+    Ok(cell)
+}
+
+/// Gives a bare cell, which is that of the leaf at `at`, its faces with a coarser leaf across, and the pieces that it
+/// owes for these, with their room. Where memory is wanting it stays bare.
+pub(crate) fn take_faces(
+    alloc: Global,
+    set: &LeafSet,
+    at: u32,
+    cell: &mut FluxCell,
+) -> Result<(), Memory>
+    requires bare { cell.old ≡ bare cell.old.block cell.old.faces }
+    requires leaf { at < length set.now.places }
+    ensures first { IfOk result (λ _. IsFirstCell set.now.grid set.now.places at cell.new) }
+    ensures block { IfOk result (λ _. cell.new.block ≡ cell.old.block) }
+    ensures faces { IfOk result (λ _. cell.new.faces ≡ cell.old.faces) }
+{
+    let block = cell.block();
     let owes = coarse_faces(alloc, set, at)?;
     let owed = blanks(alloc, &owes, block.edge(), block.fields())?;
-    Ok(FluxCell::fresh(block, faces, owes, owed))
+    cell.owe(owes, owed);
+    Ok(())
 }
 
 /// A piece for each face, whose sums are all 0.

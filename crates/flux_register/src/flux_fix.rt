@@ -1,6 +1,6 @@
 //! The flux correction as a phase over messages: its beginning and its handling.
 
-ghost use Rattle.std.specs.Prelude.{◌≡◌, ℕ, IfOk, length, map};
+ghost use Rattle.std.specs.Prelude.{◌≡◌, ℕ, ◌≤◌, IfOk, length, map};
 ghost use Rattle.block_fields.specs.BlockStates.{AreBlocksOf, state_before};
 ghost use Rattle.grid_fluxes.specs.Fluxes.{Fluxes};
 ghost use Rattle.flux_register.specs.Cells.{problem_of, state_in, unadvanced};
@@ -10,6 +10,7 @@ ghost use Rattle.flux_register.specs.Problem.{FluxFixBegins};
 use crate::cell::FluxCell;
 use crate::first_cells::first_cells;
 use crate::flux_msg::FluxMsg;
+use crate::making::cells_in_threads;
 use crate::problem::Problem;
 use advect::FaceFluxes;
 use block_fields::Block;
@@ -19,6 +20,7 @@ use leaf_set::LeafSet;
 use phase_core::{Outbox, Phase};
 use std::alloc::Global;
 use std::marker::Model;
+use std::thread::Threads;
 
 /// The flux correction over the blocks of a mesh, all of one size.
 #[derive(Drop)]
@@ -129,6 +131,32 @@ impl FluxFix {
     {
         let phase = FluxFix::over(*set.domain(), &blocks[0]);
         let cells = first_cells(alloc, set, blocks, faces)?;
+        Ok((phase, cells))
+    }
+
+    /// The phase and the cells of `begin`, which are made in at most as many threads as there are workers.
+    pub fn begin_in_threads<R: Threads + Sync>(
+        rt: &R,
+        alloc: Global,
+        workers: u32,
+        set: &LeafSet,
+        blocks: Vec<Block>,
+        faces: Vec<FaceFluxes>,
+    ) -> Result<(FluxFix, Vec<FluxCell>), Memory>
+        requires workers { 1 ≤ workers }
+        requires made { (n : ℕ) × (fields : ℕ) × (depth : ℕ) × (fluxes : Fluxes) × AreAdvancedBy set.now.grid set.now.places n fields depth blocks.items faces.items fluxes }
+        ensures grid { IfOk result (λ r. (problem_of r.0 r.1.items).setting.grid ≡ set.now.grid) }
+        ensures sizes { (n fields depth : ℕ) → AreBlocksOf set.now.places n fields depth blocks.items →
+            IfOk result (λ r. r.0 ≡ record { grid = set.now.grid; edge = n; fields = fields }) }
+        ensures state { (n fields depth : ℕ) → AreBlocksOf set.now.places n fields depth blocks.items →
+            IfOk result (λ r. state_in (problem_of r.0 r.1.items) ≡ state_before set.now.grid n fields blocks.items) }
+        ensures parts { IfOk result (λ r. map (λ k. k.before) (problem_of r.0 r.1.items).parts ≡ map unadvanced blocks.items) }
+        ensures made { (n fields depth : ℕ) (fluxes : Fluxes) → AreAdvancedBy set.now.grid set.now.places n fields depth blocks.items faces.items fluxes →
+            IfOk result (λ r. IsMadeBy (problem_of r.0 r.1.items) fluxes) }
+        ensures begins { IfOk result (λ r. FluxFixBegins (problem_of r.0 r.1.items) r.1.items) }
+    {
+        let phase = FluxFix::over(*set.domain(), &blocks[0]);
+        let cells = cells_in_threads(rt, alloc, workers, set, blocks, faces)?;
         Ok((phase, cells))
     }
 

@@ -14,6 +14,7 @@ mod first_cells;
 mod flux_fix;
 mod flux_msg;
 mod laws;
+mod making;
 mod outer_flow;
 mod outer_sides;
 mod problem;

@@ -15,6 +15,7 @@ ghost use Rattle.run_core.specs.Runs.{AreBlocksFor, blocks_state};
 ghost use Rattle.run_core.specs.Works.{flux_setting_of};
 ghost use Rattle.run_core.specs.Lemmas.Advances.{AreAdvancedBlocks};
 
+use crate::maker::Maker;
 use advect::FaceFluxes;
 use block_fields::Block;
 use cello_num::Memory;
@@ -24,14 +25,16 @@ use params_check::Params;
 use phase_core::Quiet;
 use std::alloc::Global;
 
-/// The flux correction over blocks that were advanced by their own fluxes, and its cells.
-pub(crate) fn begin_flux(
+/// The flux correction over blocks that were advanced by their own fluxes, and its cells, which the maker makes.
+pub(crate) fn begin_flux<M: Maker>(
     alloc: Global,
+    maker: &M,
     params: &Params,
     set: &LeafSet,
     blocks: Vec<Block>,
     faces: Vec<FaceFluxes>,
 ) -> Result<(FluxFix, Vec<FluxCell>), Memory>
+    requires ready { M.ready maker.now }
     requires limits { IsParameters params.now }
     requires grid { set.now.grid ≡ params.now.grid }
     requires advanced { AreAdvancedBlocks params.now set.now.places blocks.items faces.items }
@@ -42,7 +45,7 @@ pub(crate) fn begin_flux(
     ensures made { IfOk result (λ r. IsMadeBy (problem_of r.0 r.1.items) (upwind (state_in (problem_of r.0 r.1.items)) (flow_of params.now))) }
     ensures begins { IfOk result (λ r. FluxFixBegins (problem_of r.0 r.1.items) r.1.items) }
 {
-    let begun = FluxFix::begin(alloc, set, blocks, faces)?;
+    let begun = maker.begin_flux(alloc, set, blocks, faces)?;
     Ok(begun)
 }
 

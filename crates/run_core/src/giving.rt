@@ -112,7 +112,12 @@ impl<S: Start> Run<S> {
     }
 
     /// Gives the advanced blocks out as the cells of the flux correction.
-    pub(crate) fn give_flux(&mut self, alloc: Global) -> Result<(FluxFix, Vec<FluxCell>), Memory>
+    pub(crate) fn give_flux<M: Maker>(
+        &mut self,
+        alloc: Global,
+        maker: &M,
+    ) -> Result<(FluxFix, Vec<FluxCell>), Memory>
+        requires ready { M.ready maker.now }
         requires next { self.old.stage ≡ Stage.Next }
         requires step { self.old.step ≡ Step.Flux }
         ensures begun { IfOk result (λ r. IsFlux self.new r.0 r.1.items) }
@@ -122,7 +127,7 @@ impl<S: Start> Run<S> {
         self.stage = Stage::Failed;
         let blocks = mem::replace(&mut self.blocks, Vec::new(alloc));
         let faces = mem::replace(&mut self.faces, Vec::new(alloc));
-        let begun = begin_flux(alloc, &self.params, &self.set, blocks, faces)?;
+        let begun = begin_flux(alloc, maker, &self.params, &self.set, blocks, faces)?;
         self.stage = Stage::Out;
         Ok(begun)
     }

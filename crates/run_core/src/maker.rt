@@ -1,15 +1,21 @@
 //! The trait of those who make a run's cells.
-ghost use Rattle.std.specs.Prelude.{◌≡◌, ℕ, ◌^◌, ◌≤◌, IfOk, Some, length, slice_get, sum};
+ghost use Rattle.std.specs.Prelude.{◌≡◌, ℕ, ◌^◌, ◌≤◌, IfOk, Some, length, map, slice_get, sum};
 ghost use Rattle.block_fields.specs.Blocks.{BlockState, amounts_of};
-ghost use Rattle.block_fields.specs.BlockStates.{AreBlocksOf, state_of};
+ghost use Rattle.block_fields.specs.BlockStates.{AreBlocksOf, state_before, state_of};
 ghost use Rattle.adapt_core.specs.Problem as adapt;
 ghost use Rattle.refresh_phase.specs.Cells.{problem_of, state_in};
 ghost use Rattle.refresh_phase.specs.Problem.{RefreshBegins};
+ghost use Rattle.grid_fluxes.specs.Fluxes.{Fluxes};
+ghost use Rattle.flux_register.specs.Cells as flux;
+ghost use Rattle.flux_register.specs.Made.{AreAdvancedBy, IsMadeBy};
+ghost use Rattle.flux_register.specs.Problem.{FluxFixBegins};
 
 use adapt_core::{Adapt, AdaptCell};
+use advect::FaceFluxes;
 use block_fields::Block;
 use block_index::Wish;
 use cello_num::Memory;
+use flux_register::{FluxCell, FluxFix};
 use leaf_set::LeafSet;
 use refresh_phase::{Refresh, RefreshCell};
 use std::alloc::Global;
@@ -49,4 +55,25 @@ pub trait Maker {
         ensures places { IfOk result (λ r. adapt.mesh_of (adapt.problem_of r.0 r.1.items) ≡ set.now.places) }
         ensures wishes { IfOk result (λ r. adapt.wishes_of (adapt.problem_of r.0 r.1.items) ≡ wishes.now) }
         ensures begins { IfOk result (λ r. adapt.AdaptBegins (adapt.problem_of r.0 r.1.items) r.1.items) };
+
+    /// The flux correction over the blocks of a leaf set, which are all of one size, and its cells in the order of the
+    /// leaves, with the room of all pieces. The blocks and the fluxes of their faces are what an advance by each block's
+    /// own fluxes made of them.
+    fn begin_flux(
+        &self,
+        alloc: Global,
+        set: &LeafSet,
+        blocks: Vec<Block>,
+        faces: Vec<FaceFluxes>,
+    ) -> Result<(FluxFix, Vec<FluxCell>), Memory>
+        requires ready { ready self.now }
+        requires made { (n : ℕ) × (fields : ℕ) × (depth : ℕ) × (fluxes : Fluxes) × AreAdvancedBy set.now.grid set.now.places n fields depth blocks.items faces.items fluxes }
+        ensures sizes { (n fields depth : ℕ) → AreBlocksOf set.now.places n fields depth blocks.items →
+            IfOk result (λ r. r.0 ≡ record { grid = set.now.grid; edge = n; fields = fields }) }
+        ensures state { (n fields depth : ℕ) → AreBlocksOf set.now.places n fields depth blocks.items →
+            IfOk result (λ r. flux.state_in (flux.problem_of r.0 r.1.items) ≡ state_before set.now.grid n fields blocks.items) }
+        ensures parts { IfOk result (λ r. map (λ k. k.before) (flux.problem_of r.0 r.1.items).parts ≡ map flux.unadvanced blocks.items) }
+        ensures made { (n fields depth : ℕ) (fluxes : Fluxes) → AreAdvancedBy set.now.grid set.now.places n fields depth blocks.items faces.items fluxes →
+            IfOk result (λ r. IsMadeBy (flux.problem_of r.0 r.1.items) fluxes) }
+        ensures begins { IfOk result (λ r. FluxFixBegins (flux.problem_of r.0 r.1.items) r.1.items) };
 }

@@ -160,8 +160,8 @@ impl<S: Start> Run<S> {
         }
     }
 
-    /// The next work. The cells of refreshes and adapt phases are made by `maker`. The run waits until the work comes back; at the
-    /// end there is none to be done.
+    /// The next work. The cells of phases are made by `maker`. The run waits until the work comes back; at the end there is
+    /// none to be done.
     pub fn work<M: Maker>(&mut self, alloc: Global, maker: &M) -> Result<Work, RunFault>
         requires ready { M.ready maker.now }
         requires next { self.old.stage ≡ Stage.Next }
@@ -184,7 +184,7 @@ impl<S: Start> Run<S> {
             }
             Step::Advance => Ok(Work::Advance(self.give_advance(alloc))),
             Step::Flux => {
-                let (phase, cells) = self.give_flux(alloc)?;
+                let (phase, cells) = self.give_flux(alloc, maker)?;
                 Ok(Work::Flux(phase, cells))
             }
             Step::Emit => Ok(Work::Emit(self.give_emission())),

@@ -1,5 +1,5 @@
 -- The cells with which a phase over the blocks of a mesh begins.
-use Rattle.std.specs.Prelude.{◌≡◌, ℕ, false, List, Some, length, map, slice_get}
+use Rattle.std.specs.Prelude.{◌≡◌, ℕ, false, List, [], Some, length, map, slice_get}
 use Rattle.block_index.specs.Places.{Cube, Grid}
 use Rattle.block_fields.specs.Blocks.{BlockState}
 use Rattle.advect.specs.FaceFluxes.{FaceFluxState}
@@ -11,6 +11,10 @@ pub record IsFirstCell (grid : Grid) (mesh : List Cube) (i : ℕ) (c : FluxState
   pub started : c.started ≡ false
   pub owed : c.owed ≡ map (blank (record { grid = grid; edge = c.block.edge; fields = length c.block.amounts })) c.owes
   pub owes : AreOwedFaces grid mesh i c.owes
+
+-- a cell without the pieces that it owes
+abbrev pub bare : BlockState → FaceFluxState → FluxState
+bare b q = record { block = b; faces = q; owes = []; owed = []; started = false }
 
 -- one for each block and its fluxes
 pub record AreFirstCells (grid : Grid) (mesh : List Cube) (blocks : List BlockState) (faces : List FaceFluxState) (cells : List FluxState) : Type 0 where
