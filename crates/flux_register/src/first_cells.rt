@@ -56,7 +56,7 @@ fn first_cell(
 }
 
 /// Gives a bare cell, which is that of the leaf at `at`, its faces with a coarser leaf across, and the pieces that it
-/// owes for these, with their room. Where memory is wanting it stays bare.
+/// owes for these, with their room.
 pub(crate) fn take_faces(
     alloc: Global,
     set: &LeafSet,

@@ -1,2 +1,3 @@
+-- What contracts of calls in threads cite.
 pub mod Jobs
 pub mod Runs

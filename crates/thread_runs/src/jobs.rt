@@ -10,7 +10,7 @@ use std::alloc::{AllocError, Global};
 use std::thread::{Threads, join};
 
 /// Calls `f(job)` with each job, in a thread of its own where one can be made, and gives the results in the order of the
-/// jobs. Where memory is wanting, no call is made.
+/// jobs.
 pub fn map_vec<R: Threads + Sync, J: Send + Drop, X: Send + Drop, F: Fn(J) -> X + Sync>(
     rt: &R,
     alloc: Global,
