@@ -5,3 +5,4 @@ pub mod PartsOfLeaves
 pub mod OneProblem
 pub mod FirstProblems
 pub mod MadeCells
+pub mod TakenLists

@@ -1,7 +1,8 @@
 //! The adapt phase as a phase over messages: its beginning, its handling, and the levels at its end.
 
-ghost use Rattle.std.specs.Prelude.{◌≡◌, ◌≤◌, IfOk, length};
+ghost use Rattle.std.specs.Prelude.{◌≡◌, ℕ, ◌≤◌, IfOk, Some, length, map, slice_get};
 ghost use Rattle.leaf_set.specs.LevelRules.{IsLeast};
+ghost use Rattle.leaf_set.specs.TouchingLeaves.{AreTouching};
 ghost use Rattle.adapt_core.specs.Problem.{mesh_of, wishes_of, problem_of, AdaptBegins};
 
 use crate::adapt_msg::AdaptMsg;
@@ -157,4 +158,24 @@ pub fn levels(alloc: Global, quiet: &Quiet<Adapt>) -> Result<Vec<u8>, Memory>
             .map(|cell| cell.level())
             .collect(alloc)?,
     )
+}
+
+/// The leaves that touch each leaf, in the order of the leaves, taken from the cells of a phase at rest.
+pub fn touching_lists(alloc: Global, quiet: Quiet<Adapt>) -> Result<Vec<Vec<u32>>, Memory>
+    ensures touching { IfOk result (λ lists. (i : ℕ) (list : _) → slice_get lists.items i ≡ Some list →
+        AreTouching quiet.problem.grid (mesh_of quiet.problem) i list.items) }
+{
+    let lists = neighbours_of(alloc, quiet.into_cells())?;
+    Ok(lists)
+}
+
+/// The leaves that touch the leaf of each cell.
+fn neighbours_of(alloc: Global, cells: Vec<AdaptCell>) -> Result<Vec<Vec<u32>>, Memory>
+    ensures { IfOk result (λ lists. map (λ list. list.items) lists.items ≡ map (λ cell. cell.part.neighbours) cells.items) }
+{
+    let mut lists = Vec::with_capacity(alloc, cells.len())?;
+    for cell in cells {
+        lists.push(cell.into_neighbours())?;
+    }
+    Ok(lists)
 }

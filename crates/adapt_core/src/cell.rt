@@ -59,6 +59,14 @@ impl AdaptCell {
         }
     }
 
+    /// The leaves that touch this one, by their positions.
+    pub(crate) fn into_neighbours(self) -> Vec<u32>
+        ensures { result.items ≡ self.part.neighbours }
+    {
+        let AdaptCell { neighbours, .. } = self;
+        neighbours
+    }
+
     /// The present level.
     pub fn level(&self) -> u8
         ensures level { result ≡ self.now.level }

@@ -15,7 +15,7 @@ mod problem;
 mod problem_laws;
 mod siblings;
 
-pub use adapt::{Adapt, levels};
+pub use adapt::{Adapt, levels, touching_lists};
 pub use adapt_msg::AdaptMsg;
 pub use cell::AdaptCell;
 pub use laws::{

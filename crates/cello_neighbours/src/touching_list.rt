@@ -40,6 +40,17 @@ impl Touching {
         }
     }
 
+    /// The leaves of a list.
+    pub(crate) fn of(leaves: &[u32]) -> Touching
+        requires ascending { IsStrictlyIncreasing leaves.now }
+        requires few { length leaves.now ≤ most_touching }
+        ensures { result ≡ leaves.now }
+    {
+        let mut list = ArrayVec::new();
+        list.try_extend_from_slice(leaves).unwrap();
+        Touching { leaves: list }
+    }
+
     /// How many leaves there are.
     pub fn len(&self) -> usize
         ensures len { result ≡ length self.now }

@@ -1,6 +1,6 @@
 -- A coarser leaf covers the place beside a leaf exactly where the leaf lies on a side of the coarser one.
-use Rattle.std.proofs.Common.{◌≡◌, ℕ, ◌+◌, ◌-◌, ◌*◌, ◌/◌, ◌%◌, ◌^◌, ◌<◌, Bool, true, false, cond, Some, refl, sym, ap, ◌∙◌, subst, arith, ℤ, pos, negsuc}
-use Rattle.std.specs.Prelude.{slice_get}
+use Rattle.std.proofs.Common.{◌≡◌, ℕ, ◌+◌, ◌-◌, ◌*◌, ◌/◌, ◌%◌, ◌^◌, ◌<◌, ◌≤◌, Bool, true, false, cond, List, Some, refl, sym, ap, ◌∙◌, subst, arith, ℤ, pos, negsuc}
+use Rattle.std.specs.Prelude.{Contains, slice_get}
 use Rattle.std.proofs.lemmas.Int.{ints}
 use Rattle.std.proofs.lemmas.Nat.{pow-add}
 use Rattle.std.proofs.lemmas.Option.{same_Some}
@@ -9,7 +9,9 @@ use Rattle.block_index.specs.Beyond.{Offset, IsBeyond}
 use Rattle.block_index.specs.Places.{Cube, Grid, IsInside, parent_of}
 use Rattle.block_index.proofs.Beyond.{IsNext-none_self}
 use Rattle.block_index.proofs.Reaching.{unit_down, unit_none, unit_up}
+use Rattle.block_index.specs.Touching.{Touches}
 use Rattle.leaf_set.specs.Tiling.{Tiling, IsTiling}
+use Rattle.leaf_set.specs.TouchingLeaves.{AreTouching}
 use Rattle.leaf_set.proofs.Containment.{Contains as Holds, Contains-covers, Contains-one, Contains-parent_of, covers-Contains, same_cube}
 use Rattle.block_fields.proofs.Standings.{never_below}
 use Rattle.cello_neighbours.specs.Directions.{IsDirection}
@@ -220,3 +222,16 @@ module _ (t : Tiling) (tiles : IsTiling t) where
   no_face b s cover face side is_cover is from number =
       IsCover-one t.grid t.places tiles.domain tiles.mesh b (opposite s) cover (Coarser face.to) is_cover
       (subst (λ (o : Offset). IsCover t.grid t.places b (opposite o) (Coarser face.to)) (same-side face.side s is.side side number) (subst (λ (n : ℕ). IsCover t.grid t.places n (opposite face.side) (Coarser face.to)) from (cover-face face is)))
+
+  -- where no leaf that touches a leaf is coarser, the leaf has no coarser leaf across any face
+  pub none_coarser : (b : ℕ) (p : Cube) (js : List ℕ) → slice_get t.places b ≡ Some p → AreTouching t.grid t.places b js → ((j : ℕ) (c : Cube) → Contains js j → slice_get t.places j ≡ Some c → p.level ≤ c.level) → (face : FluxFace) → IsFluxFace t.grid t.places face → face.from ≡ b → ⊥
+  none_coarser b p js leaf touching fine face is from =
+      let c : Cube = is.receiver in
+      let finer = is.finer in
+      let place : face.place ≡ p = same_Some face.place p (sym is.sends ∙ (ap (slice_get t.places) from ∙ leaf)) in
+      let direction : IsDirection (opposite face.side) = subst IsDirection (sym (opposite-side face.side is.side)) (is_direction (axis_of face.side) (is_end face.side)) in
+      let apart : face.to ≡ face.from → ⊥ = λ e. (let one : c ≡ face.place = same_Some c face.place (sym is.receives ∙ (ap (slice_get t.places) e ∙ is.sends)) in omega (arith, finer, ap (λ (v : Cube). v.level) one)) in
+      let touch = Touches-IsCover t.grid t.places tiles.domain tiles.mesh face.from face.to face.place c (opposite face.side) (Coarser face.to) direction (cover-face face is) (0, (let z : 0 < 1 = omega arith in z), refl) apart is.sends is.receives in
+      let inside = touching.all face.to p c leaf is.receives (subst (λ (v : Cube). Touches t.grid v c) place touch) in
+      let least = fine face.to c inside is.receives in
+      omega (arith, least, finer, ap (λ (v : Cube). v.level) place)

@@ -47,6 +47,16 @@ module _ (grid : Grid) (mesh : List Cube) (i : ℕ) where
     few = (let e : length {A = FluxFace} [] ≡ 0 = refl in omega (arith, e));
   })
 
+  -- no face at all
+  pub no_faces : (faces : List FluxFace) → faces ≡ [] → ((face : FluxFace) → IsFluxFace grid mesh face → face.from ≡ i → ⊥) → AreOwedFaces grid mesh i faces
+  no_faces faces none no_face = subst (AreOwedFaces grid mesh i) (sym none) (record {
+    each = λ face h. absurd (none_holds face h);
+    own = λ face h. absurd (none_holds face h);
+    all = λ face is from. absurd (no_face face is from);
+    once = λ n. (let e : sum_by (on_side n) [] ≡ 0 = refl in omega (arith, e));
+    few = (let e : length {A = FluxFace} [] ≡ 0 = refl in omega (arith, e));
+  })
+
   -- no coarser leaf lies across the next side
   pub found_no_more : (n : ℕ) (faces : List FluxFace) → FoundFaces grid mesh i n faces → ((face : FluxFace) → IsFluxFace grid mesh face → face.from ≡ i → side_number face.side ≡ n → ⊥) → FoundFaces grid mesh i (n + 1) faces
   found_no_more n faces found none = record {

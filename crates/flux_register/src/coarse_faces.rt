@@ -1,6 +1,6 @@
 //! The faces of a leaf that have a coarser leaf across.
 
-ghost use Rattle.std.specs.Prelude.{◌≡◌, ◌<◌, IfOk, IfSome, Some, length};
+ghost use Rattle.std.specs.Prelude.{◌≡◌, ◌<◌, true, IfOk, IfSome, Some, length};
 ghost use Rattle.leaf_set.specs.Tiling.{IsTiling};
 ghost use Rattle.advect.specs.FaceFluxes.{IsSide};
 ghost use Rattle.flux_register.specs.Faces.{AreOwedFaces, FluxFace, IsFluxFace, side_number};
@@ -23,6 +23,9 @@ pub(crate) fn coarse_faces(alloc: Global, set: &LeafSet, at: u32) -> Result<Vec<
     // The leaves of a leaf set are a balanced mesh.
     let leaves = set.len();
     prove!((at as usize) < leaves);
+    if has_none_coarser(set, at) {
+        return Ok(Vec::new(alloc));
+    }
     let mut faces = Vec::with_capacity(alloc, SIDES as usize)?;
     for number in 0..SIDES {
         if let Some(face) = coarse_face(set, at, number) {
@@ -30,6 +33,25 @@ pub(crate) fn coarse_faces(alloc: Global, set: &LeafSet, at: u32) -> Result<Vec<
         }
     }
     Ok(faces)
+}
+
+/// Whether the set keeps the list of the leaves that touch the leaf at position `at`, and none of them is coarser. Then
+/// the leaf has no coarser leaf across any face.
+fn has_none_coarser(set: &LeafSet, at: u32) -> bool
+    requires tiles { IsTiling set.now }
+    requires leaf { at < length set.now.places }
+    ensures none { result ≡ true → (face : FluxFace) → IsFluxFace set.now.grid set.now.places face → face.from ≡ at → ⊥ }
+{
+    let Some(touching) = set.kept_touching(at as usize) else {
+        return false;
+    };
+    let level = set.place(at as usize).level();
+    for leaf in touching {
+        if set.place(*leaf as usize).level() < level {
+            return false;
+        }
+    }
+    true
 }
 
 /// The face on side `number` of the coarser leaf across, if there is one. The sides go by `side_number`.

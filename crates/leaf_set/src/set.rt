@@ -1,12 +1,13 @@
 //! The leaf set: making one, and looking for leaves by their places and positions.
 
-ghost use Rattle.std.specs.Prelude.{◌≡◌, ◌^◌, ◌<◌, ◌≤◌, ◌↔◌, true, Some, IfOk, IfErr, IfSome, IsNone, length, slice_get};
+ghost use Rattle.std.specs.Prelude.{◌≡◌, ℕ, ◌^◌, ◌<◌, ◌≤◌, ◌↔◌, true, Some, IfOk, IfErr, IfSome, IsNone, length, slice_get};
 ghost use Rattle.block_index.specs.Places.{Cube, IsDomain, covers};
 ghost use Rattle.leaf_set.specs.LeafFaults.{IsLeafFault};
 ghost use Rattle.leaf_set.specs.MeshLaws.{HasDistinctLeaves};
 ghost use Rattle.leaf_set.specs.Meshes.{IsLeaf, most_leaves};
 ghost use Rattle.leaf_set.specs.RootMesh.{root_at, root_mesh, tree_count};
 ghost use Rattle.leaf_set.specs.Tiling.{IsTiling};
+ghost use Rattle.leaf_set.specs.TouchingLeaves.{AreTouching};
 
 use crate::faults::mesh_fault;
 use crate::jump::first_jump;
@@ -18,20 +19,28 @@ use std::alloc::Global;
 use std::marker::Model;
 
 /// A domain and the leaves that tile it, balanced and in order.
+///
+/// Where lists of touching leaves were found for these leaves, the set can keep them, so that they need not be looked
+/// up again.
 #[derive(Drop)]
 pub struct LeafSet {
     domain: Domain,
     places: IndexSet<Place>,
+    // Kept lists of touching leaves: of the first leaves, of all or of none.
+    touching: Vec<Vec<u32>>,
 }
 
 impl Model for LeafSet {
+    ghost use Rattle.std.specs.Prelude.{◌≡◌, ℕ, Some, slice_get};
     ghost use Rattle.leaf_set.specs.Tiling.{IsTiling, Tiling};
+    ghost use Rattle.leaf_set.specs.TouchingLeaves.{AreTouching};
 
     ghost Value = { Tiling };
 
     ghost view = { λ s. record { grid = s.domain; places = s.places.keys } };
 
-    ghost invariant = { λ s. IsTiling (record { grid = s.domain; places = s.places.keys }) };
+    ghost invariant = { λ s. IsTiling (record { grid = s.domain; places = s.places.keys })
+        × ((i : ℕ) (list : _) → slice_get s.touching.items i ≡ Some list → AreTouching s.domain s.places.keys i list.items) };
 }
 
 impl LeafSet {
@@ -44,6 +53,7 @@ impl LeafSet {
         Ok(LeafSet {
             domain,
             places: indexed(alloc, places)?,
+            touching: Vec::new(alloc),
         })
     }
 
@@ -66,7 +76,11 @@ impl LeafSet {
         };
         match first_jump(&domain, &places) {
             Some((a, b)) => Err(LeafFault::Jump { a, b }),
-            None => Ok(LeafSet { domain, places }),
+            None => Ok(LeafSet {
+                domain,
+                places,
+                touching: Vec::new(alloc),
+            }),
         }
     }
 
@@ -110,6 +124,23 @@ impl LeafSet {
         ensures tiles { IsTiling self.now }
     {
         self.places.as_slice()
+    }
+
+    /// Keeps lists of touching leaves: at each position that of the leaf there. The leaves stay as they are.
+    pub fn keep_touching(&mut self, lists: Vec<Vec<u32>>)
+        requires touching { (i : ℕ) (list : _) → slice_get lists.items i ≡ Some list →
+            AreTouching self.old.grid self.old.places i list.items }
+        ensures same { self.new ≡ self.old }
+    {
+        self.touching = lists;
+    }
+
+    /// The positions of all leaves that touch the leaf at `i`, where they are kept.
+    pub fn kept_touching(&self, i: usize) -> Option<&[u32]>
+        ensures touching { IfSome result (λ list. AreTouching self.now.grid self.now.places i list.now) }
+    {
+        let list = self.touching.get(i)?;
+        Some(list.as_slice())
     }
 
     /// The position at which a place is a leaf.

@@ -9,7 +9,7 @@ ghost use Rattle.run_core.specs.Runs.{Adapts, AreBlocksFor, KeepsLevelLimit, Pas
 
 use crate::fault::RunFault;
 use crate::maker::Maker;
-use adapt_core::{Adapt, AdaptCell, levels};
+use adapt_core::{Adapt, AdaptCell, levels, touching_lists};
 use block_fields::Block;
 use block_index::{Place, Wish};
 use cello_num::Memory;
@@ -123,6 +123,24 @@ fn next_set(
     Ok(next)
 }
 
+/// Keeps the lists of touching leaves that a phase over a set made, where the next set has the same leaves.
+fn keep_lists(
+    alloc: Global,
+    set: &LeafSet,
+    next: &mut LeafSet,
+    quiet: Quiet<Adapt>,
+) -> Result<(), Memory>
+    requires grid { next.old.grid ≡ set.now.grid }
+    requires same_grid { quiet.problem.grid ≡ set.now.grid }
+    requires places { mesh_of quiet.problem ≡ set.now.places }
+    ensures same { next.new ≡ next.old }
+{
+    if next.places() == set.places() {
+        next.keep_touching(touching_lists(alloc, quiet)?);
+    }
+    Ok(())
+}
+
 /// The state after the adapt phase of this number, which came to rest over these blocks.
 pub(crate) fn next_state(
     alloc: Global,
@@ -130,21 +148,22 @@ pub(crate) fn next_state(
     phase: u32,
     set: &LeafSet,
     blocks: Vec<Block>,
-    quiet: &Quiet<Adapt>,
+    quiet: Quiet<Adapt>,
 ) -> Result<NextState, RunFault>
     requires grid { set.now.grid ≡ params.now.grid }
     requires blocks { AreBlocksFor params.now set.now.places blocks.items }
     requires few { (f : ℕ) → f < length params.now.fields → total (blocks_state params.now blocks.items) f ≤ 2 ^ 40 }
-    requires level_limit { KeepsLevelLimit params.now set.now.places (wishes_of quiet.now.problem) }
-    requires same_grid { quiet.now.problem.grid ≡ set.now.grid }
-    requires places { mesh_of quiet.now.problem ≡ set.now.places }
-    requires wishes { wishes_of quiet.now.problem ≡ phase_wishes params.now phase (blocks_state params.now blocks.items) }
+    requires level_limit { KeepsLevelLimit params.now set.now.places (wishes_of quiet.problem) }
+    requires same_grid { quiet.problem.grid ≡ set.now.grid }
+    requires places { mesh_of quiet.problem ≡ set.now.places }
+    requires wishes { wishes_of quiet.problem ≡ phase_wishes params.now phase (blocks_state params.now blocks.items) }
     ensures grid { IfOk result (λ next. next.set.grid ≡ params.now.grid) }
     ensures blocks { IfOk result (λ next. AreBlocksFor params.now next.set.places next.blocks.items) }
     ensures adapts { IfOk result (λ next. Adapts params.now phase (blocks_state params.now blocks.items) (blocks_state params.now next.blocks.items)) }
-    ensures ended { IfErr result (λ fault. (fault ≡ RunFault.Memory) ⊎ PassesLimit params.now phase set.now.places (wishes_of quiet.now.problem) fault) }
+    ensures ended { IfErr result (λ fault. (fault ≡ RunFault.Memory) ⊎ PassesLimit params.now phase set.now.places (wishes_of quiet.problem) fault) }
 {
-    let next = next_set(alloc, params, phase, set, quiet)?;
+    let mut next = next_set(alloc, params, phase, set, &quiet)?;
+    keep_lists(alloc, set, &mut next, quiet)?;
     let blocks = apply(alloc, blocks, set, &next)?;
     Ok(NextState { set: next, blocks })
 }

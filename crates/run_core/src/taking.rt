@@ -101,7 +101,7 @@ impl<S: Start> Run<S> {
         self.stage = Stage::Failed;
         let blocks = mem::replace(&mut self.blocks, Vec::new(alloc));
         let number = self.ended + self.phase + 1;
-        match next_state(alloc, &self.params, number, &self.set, blocks, &quiet) {
+        match next_state(alloc, &self.params, number, &self.set, blocks, quiet) {
             Ok(NextState { set, blocks }) => {
                 self.set = set;
                 self.blocks = blocks;

@@ -2,9 +2,14 @@
 use Rattle.std.proofs.Common.{ℕ, ◌+◌, List, sym, ap, ◌∙◌, subst, arith}
 use Rattle.std.proofs.lemmas.Option.{same_Some, none-some}
 use Rattle.flux_register.specs.Faces.{FluxFace}
-use Rattle.flux_register.proofs.FoundFaces.{FoundFaces, found_none, found_no_more, found_one, found_all}
+use Rattle.flux_register.proofs.FoundFaces.{FoundFaces, found_none, found_no_more, found_one, found_all, no_faces}
 use Rattle.flux_register.proofs.coarse_faces.coarse_faces.Goals.{in-Some+in_ok-push, in_default}
 use Rattle.flux_register.proofs.coarse_faces.coarse_faces.Goals as goal
+
+pub returns-then-has_none_coarser : goal.returns-then-has_none_coarser
+returns-then-has_none_coarser c = record {
+  faces = no_faces c.args.set.now.grid c.args.set.now.places c.args.at c.new.result.items c.new.ensures.items (c.has_none_coarser.ensures.none c.if-has_none_coarser.true);
+}
 
 pub loop-number-init : goal.loop-number-init
 loop-number-init c = found_none c.args.set.now.grid c.args.set.now.places c.args.at c.in_ok-faces.faces.items c.in_ok-faces.ensures.items

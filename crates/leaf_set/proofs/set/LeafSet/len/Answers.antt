@@ -5,4 +5,4 @@ use Rattle.leaf_set.proofs.set.LeafSet.len.Goals as goal
 
 pub returns-clause-limit : goal.returns-clause-limit
 returns-clause-limit c =
-    subst (λ t. length t.places ≤ 2 ^ 30) c.self.view_is (length-IsMesh_limit _ _ c.self.invariant.domain c.self.invariant.mesh)
+    subst (λ t. length t.places ≤ 2 ^ 30) c.self.view_is (length-IsMesh_limit _ _ c.self.invariant.0.domain c.self.invariant.0.mesh)

@@ -38,8 +38,8 @@ next_state-requires-clause-wishes g c =
     (subst (λ (s : Standing). AreNextWishes s (wishes_of c.args.quiet.problem)) (sym c.self.view_is) c.requires.problem.wishes)
     ∙ ap (λ (bs : List BlockState). phase_wishes run.params (run.ended + run.phase + 1) (blocks_state run.params bs)) (λ i. (sym c.replace-blocks.ensures.value i).items)
 
-pub returns-clause-limit : goal.returns-clause-limit
-returns-clause-limit g c =
+pub returns-in-Err-clause-limit : goal.returns-in-Err-clause-limit
+returns-in-Err-clause-limit g c =
     let run = c.self.inside in
     let at = course_of run.params run.ended run.last g.S.Start.start in
     let kept = kept-out at run.set run.ledger run.phase (record { blocks = run.blocks.items; wishes = run.wishes.items; faces = run.faces.items }) run.step run.stage c.args.self.now c.self.view_is Adapt c.requires.out c.requires.step c.self.invariant in
