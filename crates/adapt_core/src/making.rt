@@ -14,6 +14,12 @@ use std::alloc::Global;
 use std::thread::Threads;
 use thread_runs::for_each_mut;
 
+/// How many cells a thread makes at least, where touching leaves are looked up. Starting a thread takes about as long.
+const FEWEST: usize = 32;
+
+/// The same where the set keeps lists of touching leaves.
+const FEWEST_KEPT: usize = 256;
+
 /// The cells that `first_cells` makes, in at most as many threads as there are workers. Each thread has a run of leaves
 /// that follow one another.
 pub(crate) fn cells_in_threads<R: Threads + Sync>(
@@ -32,7 +38,7 @@ pub(crate) fn cells_in_threads<R: Threads + Sync>(
     make_each(
         rt,
         alloc,
-        workers,
+        threads_for(workers, set),
         set,
         wishes,
         &openings,
@@ -40,6 +46,18 @@ pub(crate) fn cells_in_threads<R: Threads + Sync>(
     );
     let cells = cells_of(alloc, slots)?;
     Ok(cells)
+}
+
+/// How many threads make the cells of a leaf set: at most as many as there are workers, and no more than there is work
+/// for.
+fn threads_for(workers: u32, set: &LeafSet) -> usize
+    ensures { 1 ≤ result }
+{
+    let fewest = match set.kept_touching(0) {
+        Some(_) => FEWEST_KEPT,
+        None => FEWEST,
+    };
+    (workers as usize).min(set.len() / fewest).max(1)
 }
 
 /// So many slots without a cell.
@@ -57,13 +75,13 @@ fn empty_slots(alloc: Global, count: usize) -> Result<Vec<Option<AdaptCell>>, Me
 fn make_each<R: Threads + Sync>(
     rt: &R,
     alloc: Global,
-    workers: u32,
+    threads: usize,
     set: &LeafSet,
     wishes: &[Wish],
     openings: &[u8],
     slots: &mut [Option<AdaptCell>],
 )
-    requires workers { 1 ≤ workers }
+    requires threads { 1 ≤ threads }
     requires limit { length set.now.places ≤ most_leaves }
     requires wishes { length wishes.now ≡ length set.now.places }
     requires openings { length openings.now ≡ length set.now.places }
@@ -74,7 +92,7 @@ fn make_each<R: Threads + Sync>(
     for_each_mut(
         rt,
         slots,
-        workers as usize,
+        threads,
         &|at: usize, one: &mut Option<AdaptCell>|
             requires leaf { at < length set.now.places }
             requires limit { length set.now.places ≤ most_leaves }

@@ -18,6 +18,9 @@ use std::alloc::Global;
 use std::thread::Threads;
 use thread_runs::for_each_mut;
 
+/// How many cells a thread makes at least. Starting a thread takes about as long.
+const FEWEST: usize = 256;
+
 /// A cell that is bare, or has its pieces.
 #[derive(Drop)]
 pub(crate) struct Making {
@@ -42,12 +45,26 @@ pub(crate) fn cells_in_threads<R: Threads + Sync>(
 {
     let _leaves = set.len();
     let mut making = bare_cells(alloc, blocks, faces)?;
-    make_each(rt, alloc, workers, set, making.as_mut_slice());
+    make_each(
+        rt,
+        alloc,
+        threads_for(workers, set),
+        set,
+        making.as_mut_slice(),
+    );
     if !all_made(&making) {
         return Err(Memory);
     }
     let cells = cells_of(alloc, making)?;
     Ok(cells)
+}
+
+/// How many threads make the cells of a leaf set: at most as many as there are workers, and no more than there is work
+/// for.
+fn threads_for(workers: u32, set: &LeafSet) -> usize
+    ensures { 1 ≤ result }
+{
+    (workers as usize).min(set.len() / FEWEST).max(1)
 }
 
 /// Bare cells of the blocks and the fluxes of their faces, in order.
@@ -74,11 +91,11 @@ fn bare_cells(
 fn make_each<R: Threads + Sync>(
     rt: &R,
     alloc: Global,
-    workers: u32,
+    threads: usize,
     set: &LeafSet,
     making: &mut [Making],
 )
-    requires workers { 1 ≤ workers }
+    requires threads { 1 ≤ threads }
     requires each { (i : ℕ) (m : _) → slice_get making.old i ≡ Some m → (m.cell ≡ bare m.cell.block m.cell.faces) × i < length set.now.places }
     ensures one_each { length making.new ≡ length making.old }
     ensures each { (i : ℕ) (m n : _) → slice_get making.old i ≡ Some m → slice_get making.new i ≡ Some n → IsMade set.now.grid set.now.places i m n }
@@ -86,7 +103,7 @@ fn make_each<R: Threads + Sync>(
     for_each_mut(
         rt,
         making,
-        workers as usize,
+        threads,
         &|at: usize, one: &mut Making|
             requires bare { one.old.cell ≡ bare one.old.cell.block one.old.cell.faces }
             requires leaf { at < length set.now.places }

@@ -1,5 +1,5 @@
 -- A first cell for each leaf.
-use Rattle.std.proofs.Common.{◌≡◌, ℕ, List, Option, Some, length, map, sym, ap, ◌∙◌, subst}
+use Rattle.std.proofs.Common.{◌≡◌, ℕ, List, Option, Some, length, ap, ◌∙◌, subst}
 use Rattle.std.specs.Prelude.{slice_get, IfSome}
 use Rattle.phase_core.specs.Lemmas.ListsByPlaces.{written_back}
 use Rattle.adapt_core.specs.Cells.{LeafState}
