@@ -12,9 +12,9 @@ use leaf_set::LeafSet;
 use sibling_rule::opening;
 use std::alloc::Global;
 use std::thread::Threads;
-use thread_runs::for_each_mut;
+use thread_runs::{threads_for, try_for_each_mut};
 
-/// How many cells a thread makes at least, where touching leaves are looked up. Starting a thread takes about as long.
+/// How many cells take about as long as starting a thread, where touching leaves are looked up.
 const FEWEST: usize = 32;
 
 /// The same where the set keeps lists of touching leaves.
@@ -38,26 +38,24 @@ pub(crate) fn cells_in_threads<R: Threads + Sync>(
     make_each(
         rt,
         alloc,
-        threads_for(workers, set),
+        threads_for(workers as usize, set.len(), fewest(set)),
         set,
         wishes,
         &openings,
         slots.as_mut_slice(),
-    );
+    )?;
     let cells = cells_of(alloc, slots)?;
     Ok(cells)
 }
 
-/// How many threads make the cells of a leaf set: at most as many as there are workers, and no more than there is work
-/// for.
-fn threads_for(workers: u32, set: &LeafSet) -> usize
-    ensures { 1 ≤ result }
+/// How many cells of a leaf set a thread makes at least.
+fn fewest(set: &LeafSet) -> usize
+    ensures { 0 < result }
 {
-    let fewest = match set.kept_touching(0) {
+    match set.kept_touching(0) {
         Some(_) => FEWEST_KEPT,
         None => FEWEST,
-    };
-    (workers as usize).min(set.len() / fewest).max(1)
+    }
 }
 
 /// So many slots without a cell.
@@ -71,7 +69,7 @@ fn empty_slots(alloc: Global, count: usize) -> Result<Vec<Option<AdaptCell>>, Me
     Ok(slots)
 }
 
-/// Puts the first cell of each leaf into its slot, as far as there is memory.
+/// Puts the first cell of each leaf into its slot.
 fn make_each<R: Threads + Sync>(
     rt: &R,
     alloc: Global,
@@ -80,49 +78,30 @@ fn make_each<R: Threads + Sync>(
     wishes: &[Wish],
     openings: &[u8],
     slots: &mut [Option<AdaptCell>],
-)
+) -> Result<(), Memory>
     requires threads { 1 ≤ threads }
     requires limit { length set.now.places ≤ most_leaves }
     requires wishes { length wishes.now ≡ length set.now.places }
     requires openings { length openings.now ≡ length set.now.places }
     requires one_each { length slots.old ≡ length set.now.places }
     ensures one_each { length slots.new ≡ length slots.old }
-    ensures each { (i : ℕ) (slot : _) → slice_get slots.new i ≡ Some slot → IfSome slot (λ cell. IsFirstCell set.now.grid set.now.places wishes.now openings.now i cell) }
+    ensures each { IfOk result (λ _. (i : ℕ) (slot : _) → slice_get slots.new i ≡ Some slot → IfSome slot (λ cell. IsFirstCell set.now.grid set.now.places wishes.now openings.now i cell)) }
 {
-    for_each_mut(
+    try_for_each_mut(
         rt,
         slots,
         threads,
-        &|at: usize, one: &mut Option<AdaptCell>|
+        &|at: usize, one: &mut Option<AdaptCell>| -> Result<(), Memory>
             requires leaf { at < length set.now.places }
             requires limit { length set.now.places ≤ most_leaves }
             requires wishes { length wishes.now ≡ length set.now.places }
             requires openings { length openings.now ≡ length set.now.places }
-            ensures first { IfSome one.new (λ cell. IsFirstCell set.entry.now.grid set.entry.now.places wishes.entry.now openings.entry.now at cell) }
+            ensures first { IfOk result (λ _. IfSome one.new (λ cell. IsFirstCell set.entry.now.grid set.entry.now.places wishes.entry.now openings.entry.now at cell)) }
         {
-            *one = some_cell(alloc, set, wishes, openings, at);
+            *one = Some(first_cell(alloc, set, wishes, openings, at)?);
+            Ok(())
         },
-    );
-}
-
-/// The first cell of the leaf at position `at`, or none where memory is wanting.
-fn some_cell(
-    alloc: Global,
-    set: &LeafSet,
-    wishes: &[Wish],
-    openings: &[u8],
-    at: usize,
-) -> Option<AdaptCell>
-    requires leaf { at < length set.now.places }
-    requires limit { length set.now.places ≤ most_leaves }
-    requires wishes { length wishes.now ≡ length set.now.places }
-    requires openings { length openings.now ≡ length set.now.places }
-    ensures first { IfSome result (λ cell. IsFirstCell set.now.grid set.now.places wishes.now openings.now at cell) }
-{
-    match first_cell(alloc, set, wishes, openings, at) {
-        Ok(cell) => Some(cell),
-        Err(Memory) => None,
-    }
+    )
 }
 
 /// The cells of slots that all have one; else memory was wanting.

@@ -2,6 +2,5 @@
 -- flows out.
 pub mod FluxLaws
 pub mod FirstCells
-pub mod Made
 pub mod Sending
 pub mod Outward

@@ -1,8 +1,8 @@
 -- Blocks that move from list to list one by one, and those that were advanced in several threads.
-use Rattle.std.proofs.Common.{◌≡◌, ℕ, zero, suc, ◌<◌, List, [], ◌∷◌, ◌++◌, Option, Some, map, length, refl, sym, ap, ◌∙◌, subst, arith}
-use Rattle.std.specs.Prelude.{slice_get, slice_index_or}
+use Rattle.std.proofs.Common.{◌≡◌, ℕ, List, [], ◌∷◌, ◌++◌, Option, Some, map, length, refl, sym, ap, ◌∙◌, subst, arith}
+use Rattle.std.specs.Prelude.{slice_get}
 use Rattle.std.proofs.lemmas.List.{length-map}
-use Rattle.std.proofs.lemmas.Option.{same_Some, slice_get_past, slice_get-get_or}
+use Rattle.std.proofs.lemmas.Option.{same_Some, slice_get_past}
 use Rattle.phase_core.specs.Lemmas.Lookups.{get-map, get-map_back}
 use Rattle.block_fields.specs.Blocks.{BlockState}
 use Rattle.params_check.specs.Parameters.{Parameters}
@@ -51,12 +51,9 @@ left f all here rest walks none = joined all here (map f rest) walks (ap (map f)
 
 -- blocks that can be advanced
 pub can-each : (p : Parameters) (befores : List BlockState) (moving : List Moving) → map (λ (m : Moving). m.block) moving ≡ befores
-    → ((i : ℕ) (b : BlockState) → slice_get befores i ≡ Some b → CanAdvance p b) → (k : ℕ) (d : Moving) → k < length moving
-    → CanAdvance p (slice_index_or moving k d).block
-can-each p befores moving first can k d below =
-    let block : Moving → BlockState = λ m. m.block in
-    let m : Moving = slice_index_or moving k d in
-    can k m.block (subst (λ (l : List BlockState). slice_get l k ≡ Some m.block) first (get-map block moving k m (slice_get-get_or moving k d below)))
+    → ((i : ℕ) (b : BlockState) → slice_get befores i ≡ Some b → CanAdvance p b) → (i : ℕ) (m : Moving) → slice_get moving i ≡ Some m → CanAdvance p m.block
+can-each p befores moving first can i m here =
+    can i m.block (subst (λ (l : List BlockState). slice_get l i ≡ Some m.block) first (get-map (λ (n : Moving). n.block) moving i m here))
 
 -- all blocks that were taken apart again are advanced
 pub all-moved : (p : Parameters) (befores blocks : List BlockState) (faces : List FaceFluxState) (moving moved : List Moving)

@@ -1,5 +1,5 @@
 //! The advance of blocks by their own fluxes, in several threads.
-ghost use Rattle.std.specs.Prelude.{◌≡◌, ℕ, ◌≤◌, [], All, IfOk, Some, length, map, slice_get};
+ghost use Rattle.std.specs.Prelude.{◌≡◌, ℕ, ◌≤◌, [], IfOk, Some, length, map, slice_get};
 ghost use Rattle.block_fields.specs.Blocks.{BlockState};
 ghost use Rattle.flux_register.specs.Made.{AreUpwindAdvanced};
 ghost use Rattle.parallel_maps.specs.Advances.{CanAdvance, WasAdvanced};
@@ -12,7 +12,7 @@ use params_check::Params;
 use std::alloc::Global;
 use std::thread::Threads;
 use std::{mem, thread};
-use thread_runs::for_each_mut;
+use thread_runs::try_for_each_mut;
 
 /// A block, and the fluxes of its outermost faces once it is advanced.
 #[derive(Drop)]
@@ -37,7 +37,7 @@ pub fn advances<R: Threads + Sync>(
     let bare = Vec::with_capacity(alloc, blocks.len())?;
     let still = mem::replace(blocks, bare);
     let mut moving = all_still(alloc, still)?;
-    advance_each(rt, alloc, workers, params, moving.as_mut_slice());
+    advance_each(rt, alloc, workers, params, moving.as_mut_slice())?;
     let faces = take_apart(alloc, moving, blocks)?;
     Ok(faces)
 }
@@ -53,41 +53,31 @@ fn all_still(alloc: Global, blocks: Vec<Block>) -> Result<Vec<Moving>, Memory>
     Ok(moving)
 }
 
-/// Advances all of them, each in its place, as far as there is memory for their fluxes.
+/// Advances all of them, each in its place.
 fn advance_each<R: Threads + Sync>(
     rt: &R,
     alloc: Global,
     workers: u32,
     params: &Params,
     moving: &mut [Moving],
-)
+) -> Result<(), Memory>
     requires workers { 1 ≤ workers }
-    requires can { All (λ m. CanAdvance params.now m.block) moving.old }
+    requires can { (i : ℕ) (m : _) → slice_get moving.old i ≡ Some m → CanAdvance params.now m.block }
     ensures one_each { length moving.new ≡ length moving.old }
-    ensures each { (i : ℕ) (m n : _) → slice_get moving.old i ≡ Some m → slice_get moving.new i ≡ Some n → WasAdvanced params.now m.block n.block n.faces }
+    ensures each { IfOk result (λ _. (i : ℕ) (m n : _) → slice_get moving.old i ≡ Some m → slice_get moving.new i ≡ Some n → WasAdvanced params.now m.block n.block n.faces) }
 {
-    for_each_mut(
+    try_for_each_mut(
         rt,
         moving,
         workers as usize,
-        &|_at: usize, one: &mut Moving|
+        &|_at: usize, one: &mut Moving| -> Result<(), Memory>
             requires can { CanAdvance params.now one.old.block }
-            ensures advanced { WasAdvanced params.entry.now one.old.block one.new.block one.new.faces }
+            ensures advanced { IfOk result (λ _. WasAdvanced params.entry.now one.old.block one.new.block one.new.faces) }
         {
-            one.faces = advance_one(alloc, params, &mut one.block);
+            one.faces = Some(advance_block(alloc, params, &mut one.block)?);
+            Ok(())
         },
-    );
-}
-
-/// Advances a block, and answers the fluxes of its outermost faces, or none where there is no memory for them.
-fn advance_one(alloc: Global, params: &Params, block: &mut Block) -> Option<FaceFluxes>
-    requires can { CanAdvance params.now block.old }
-    ensures advanced { WasAdvanced params.now block.old block.new result }
-{
-    match advance_block(alloc, params, block) {
-        Ok(faces) => Some(faces),
-        Err(Memory) => None,
-    }
+    )
 }
 
 /// Puts the blocks back, in order, and answers their fluxes.

@@ -12,7 +12,7 @@ use criteria::wish;
 use params_check::Criterion;
 use std::alloc::Global;
 use std::thread::Threads;
-use thread_runs::for_each_mut;
+use thread_runs::try_for_each_mut;
 
 /// The wish of each block in a phase, in order, from its amounts and its ghosts.
 pub fn block_wishes(
@@ -48,7 +48,7 @@ pub fn wishes<R: Threads + Sync>(
     ensures wishes { IfOk result (λ wishes. wishes.items ≡ map (λ b. criteria_wish b.edge phase criteria.now (seen_at b) b.place) blocks.now) }
 {
     let mut wishes = vec![in alloc; Wish::Stay; blocks.len()]?;
-    wish_each(rt, workers, criteria, phase, blocks, wishes.as_mut_slice());
+    wish_each(rt, workers, criteria, phase, blocks, wishes.as_mut_slice())?;
     Ok(wishes)
 }
 
@@ -60,24 +60,26 @@ fn wish_each<R: Threads + Sync>(
     phase: u32,
     blocks: &[Block],
     wishes: &mut [Wish],
-)
+) -> Result<(), Memory>
     requires workers { 1 ≤ workers }
     requires one_each { length wishes.old ≡ length blocks.now }
     requires limits { (i : ℕ) (b : BlockState) → slice_get blocks.now i ≡ Some b → All (KeepsCriterion (length b.amounts)) criteria.now }
     requires small { (i : ℕ) (b : BlockState) → slice_get blocks.now i ≡ Some b → IsSmall b }
-    ensures wishes { wishes.new ≡ map (λ b. criteria_wish b.edge phase criteria.now (seen_at b) b.place) blocks.now }
+    ensures one_each { length wishes.new ≡ length wishes.old }
+    ensures each { IfOk result (λ _. (i : ℕ) (w : _) → slice_get wishes.new i ≡ Some w → (b : BlockState) → slice_get blocks.now i ≡ Some b → w ≡ criteria_wish b.edge phase criteria.now (seen_at b) b.place) }
 {
-    for_each_mut(
+    try_for_each_mut(
         rt,
         wishes,
         workers as usize,
-        &|at: usize, one: &mut Wish|
+        &|at: usize, one: &mut Wish| -> Result<(), Memory>
             requires inside { at < length blocks.now }
             requires limits { (i : ℕ) (b : BlockState) → slice_get blocks.now i ≡ Some b → All (KeepsCriterion (length b.amounts)) criteria.now }
             requires small { (i : ℕ) (b : BlockState) → slice_get blocks.now i ≡ Some b → IsSmall b }
             ensures wish { (b : BlockState) → slice_get blocks.entry.now at ≡ Some b → one.new ≡ criteria_wish b.edge phase criteria.entry.now (seen_at b) b.place }
         {
             *one = wish(&blocks[at], criteria, phase);
+            Ok(())
         },
-    );
+    )
 }

@@ -3,4 +3,3 @@
 pub mod RefreshLaws
 pub mod Sending
 pub mod FirstCells
-pub mod Made

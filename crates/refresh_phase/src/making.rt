@@ -1,10 +1,9 @@
 //! The cells with which a phase over the blocks of a mesh begins, made in several threads.
 
-ghost use Rattle.std.specs.Prelude.{◌≡◌, ℕ, ◌≤◌, true, false, IfOk, Some, length, map, slice_get};
+ghost use Rattle.std.specs.Prelude.{◌≡◌, ℕ, ◌≤◌, IfOk, Some, length, map, slice_get};
 ghost use Rattle.block_fields.specs.Blocks.{IsBlock};
 ghost use Rattle.block_fields.specs.BlockStates.{AreBlocksOf};
 ghost use Rattle.refresh_phase.specs.Lemmas.FirstCells.{AreFirstCells, IsFirstCell, bare};
-ghost use Rattle.refresh_phase.specs.Lemmas.Made.{IsMade};
 
 use crate::cell::RefreshCell;
 use block_fields::Block;
@@ -12,14 +11,7 @@ use cello_num::Memory;
 use leaf_set::LeafSet;
 use std::alloc::Global;
 use std::thread::Threads;
-use thread_runs::for_each_mut;
-
-/// A cell that is bare, or has its pieces.
-#[derive(Drop)]
-pub(crate) struct Making {
-    cell: RefreshCell,
-    made: bool,
-}
+use thread_runs::try_for_each_mut;
 
 /// The cells that `first_cells` makes, in at most as many threads as there are workers. Each thread has a run of cells
 /// that follow one another.
@@ -35,87 +27,63 @@ pub(crate) fn cells_in_threads<R: Threads + Sync>(
     ensures { IfOk result (λ cells. AreFirstCells set.now.grid set.now.places blocks.items cells.items) }
 {
     let _leaves = set.len();
-    let mut making = bare_cells(alloc, blocks)?;
-    make_each(rt, alloc, workers, set, making.as_mut_slice());
-    if !all_made(&making) {
-        return Err(Memory);
-    }
-    let cells = cells_of(alloc, making)?;
+    let mut cells = bare_cells(alloc, blocks)?;
+    take_each(rt, alloc, workers, set, cells.as_mut_slice())?;
     Ok(cells)
 }
 
 /// Bare cells of the blocks, in order.
-fn bare_cells(alloc: Global, blocks: Vec<Block>) -> Result<Vec<Making>, Memory>
-    ensures { IfOk result (λ making. making.items ≡ map (λ b. record { cell = bare b; made = false }) blocks.items) }
+fn bare_cells(alloc: Global, blocks: Vec<Block>) -> Result<Vec<RefreshCell>, Memory>
+    ensures { IfOk result (λ cells. cells.items ≡ map bare blocks.items) }
 {
     Ok(
         blocks
             .into_iter()
-            .map(|block| Making {
-                cell: RefreshCell::bare(alloc, block),
-                made: false,
-            })
+            .map(|block| RefreshCell::bare(alloc, block))
             .collect(alloc)?,
     )
 }
 
-/// Gives all of them their pieces, each in its place, as far as there is memory.
-fn make_each<R: Threads + Sync>(
+/// Gives each of the bare cells its pieces, in its place.
+fn take_each<R: Threads + Sync>(
     rt: &R,
     alloc: Global,
     workers: u32,
     set: &LeafSet,
-    making: &mut [Making],
-)
+    cells: &mut [RefreshCell],
+) -> Result<(), Memory>
     requires workers { 1 ≤ workers }
-    requires each { (i : ℕ) (m : _) → slice_get making.old i ≡ Some m → (m.cell ≡ bare m.cell.block) × (slice_get set.now.places i ≡ Some m.cell.block.place) × IsBlock m.cell.block }
-    ensures one_each { length making.new ≡ length making.old }
-    ensures each { (i : ℕ) (m n : _) → slice_get making.old i ≡ Some m → slice_get making.new i ≡ Some n → IsMade set.now.grid set.now.places i m n }
+    requires each { (i : ℕ) (c : _) → slice_get cells.old i ≡ Some c → (c ≡ bare c.block) × (slice_get set.now.places i ≡ Some c.block.place) × IsBlock c.block }
+    ensures many { length cells.new ≡ length cells.old }
+    ensures each { IfOk result (λ _. (i : ℕ) (c d : _) → slice_get cells.old i ≡ Some c → slice_get cells.new i ≡ Some d → IsFirstCell set.now.grid set.now.places i d × (d.block ≡ c.block)) }
 {
-    for_each_mut(
+    try_for_each_mut(
         rt,
-        making,
+        cells,
         workers as usize,
-        &|at: usize, one: &mut Making|
-            requires bare { one.old.cell ≡ bare one.old.cell.block }
-            requires leaf { slice_get set.now.places at ≡ Some one.old.cell.block.place }
-            requires limits { IsBlock one.old.cell.block }
-            ensures made { IsMade set.entry.now.grid set.entry.now.places at one.old one.new }
-        {
-            make(alloc, set, at, one);
-        },
-    );
+        &|at: usize, one: &mut RefreshCell| -> Result<(), Memory>
+            requires bare { one.old ≡ bare one.old.block }
+            requires leaf { slice_get set.now.places at ≡ Some one.old.block.place }
+            requires limits { IsBlock one.old.block }
+            ensures first { IfOk result (λ _. IsFirstCell set.entry.now.grid set.entry.now.places at one.new) }
+            ensures block { IfOk result (λ _. one.new.block ≡ one.old.block) }
+        { take_pieces(alloc, set, at, one) },
+    )
 }
 
-/// Gives a cell its pieces, unless memory is wanting.
-fn make(alloc: Global, set: &LeafSet, at: usize, one: &mut Making)
-    requires bare { one.old.cell ≡ bare one.old.cell.block }
-    requires leaf { slice_get set.now.places at ≡ Some one.old.cell.block.place }
-    requires limits { IsBlock one.old.cell.block }
-    ensures made { IsMade set.now.grid set.now.places at one.old one.new }
+/// Gives a bare cell, which is that of the leaf at `at`, its pieces.
+fn take_pieces(
+    alloc: Global,
+    set: &LeafSet,
+    at: usize,
+    cell: &mut RefreshCell,
+) -> Result<(), Memory>
+    requires bare { cell.old ≡ bare cell.old.block }
+    requires leaf { slice_get set.now.places at ≡ Some cell.old.block.place }
+    requires limits { IsBlock cell.old.block }
+    ensures first { IfOk result (λ _. IsFirstCell set.now.grid set.now.places at cell.new) }
+    ensures block { IfOk result (λ _. cell.new.block ≡ cell.old.block) }
 {
     let _leaves = set.len();
-    one.made = match one.cell.take_pieces(alloc, set, at as u32) {
-        Ok(()) => true,
-        Err(Memory) => false,
-    };
-}
-
-/// Whether all have their pieces.
-fn all_made(making: &[Making]) -> bool
-    ensures { result ≡ true → (i : ℕ) (m : _) → slice_get making.now i ≡ Some m → m.made ≡ true }
-{
-    for one in making {
-        if !one.made {
-            return false;
-        }
-    }
-    true
-}
-
-/// The cells of all.
-fn cells_of(alloc: Global, making: Vec<Making>) -> Result<Vec<RefreshCell>, Memory>
-    ensures { IfOk result (λ cells. cells.items ≡ map (λ m. m.cell) making.items) }
-{
-    Ok(making.into_iter().map(|one| one.cell).collect(alloc)?)
+    cell.take_pieces(alloc, set, at as u32)
 }

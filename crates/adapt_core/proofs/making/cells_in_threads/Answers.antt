@@ -23,6 +23,6 @@ returns g c =
       cells_are = Has-taken (IsFirstCell set.grid set.places wishes openings) (length set.places) filled c.in_ok-cells.cells.items
           (long ∙ (c.in_ok-slots.ensures ∙ c.len.ensures.len))
           (subst (λ (os : List ℕ). (i : ℕ) (slot : Option LeafState) → slice_get filled i ≡ Some slot → IfSome slot (λ cell. IsFirstCell set.grid set.places wishes os i cell))
-          c.deref.ensures.value c.make_each.ensures.each)
+          c.deref.ensures.value c.in_ok-make_each.ensures.each)
           (c.in_ok-cells.ensures ∙ back);
     }

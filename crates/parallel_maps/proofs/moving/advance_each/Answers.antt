@@ -1,15 +1,13 @@
--- Each thread has advanced its blocks.
-use Rattle.std.proofs.Common.{◌∙◌, subst}
-use Rattle.std.proofs.lemmas.Option.{get_or_from_slice_get, slice_get_within}
-use Rattle.parallel_maps.specs.declared.moving.Moving.{Moving}
+-- What each call gives.
+use Rattle.thread_runs.specs.Lemmas.Calls.{by_calls}
 use Rattle.parallel_maps.specs.Advances.{WasAdvanced}
 use Rattle.parallel_maps.proofs.moving.advance_each.Goals as goal
 
+pub try_for_each_mut-requires-clause-accepts : goal.try_for_each_mut-requires-clause-accepts
+try_for_each_mut-requires-clause-accepts g c κs within = λ i p here. c.requires.can i p.now here
+
 pub returns-clause-each : goal.returns-clause-each
-returns-clause-each g c = λ i m n before after.
-    let p = c.args.params.now in
-    let it = (c.for_each_mut.ensures i m (slice_get_within c.args.moving.now i m before)).1 in
-    let was = it.argument_is ∙ get_or_from_slice_get c.args.moving.now i m m before in
-    let is = it.left ∙ get_or_from_slice_get c.for_each_mut.new.elements i n m after in
-    subst (λ (y : Moving). WasAdvanced p m.block y.block y.faces) is
-    (subst (λ (x : Moving). WasAdvanced p x.block it.after_call.now.block it.after_call.now.faces) was it.call)
+returns-clause-each g c =
+    let calls = c.try_for_each_mut in
+    by_calls _ _ (λ i m n. WasAdvanced c.args.params.now m.block n.block n.faces) (λ i p q call. call)
+    c.args.moving.now calls.new.elements calls.result calls.ensures.changed

@@ -26,5 +26,5 @@ returns g c =
       advanced = all-moved c.args.params.now c.args.blocks.now.items c.take_apart.new.blocks.items c.in_ok-faces.faces.items c.as_mut_slice.result.now moved
           (ap (map block) same ∙ (c.in_ok-moving.ensures.blocks ∙ ap (λ v. v.items) c.replace-still.ensures.value))
           (c.in_ok-faces.ensures.blocks ∙ ap (map block) back) (c.in_ok-faces.ensures.faces ∙ ap (map fluxes) back)
-          c.advance_each.ensures.one_each c.advance_each.ensures.each;
+          c.advance_each.ensures.one_each c.in_ok-advance_each.ensures.each;
     }

@@ -1,0 +1,2 @@
+-- Lemmas that proofs of callers cite.
+pub mod Calls
